@@ -1,0 +1,67 @@
+-- Characters and digits: where a byte's digit is found, and that the two ways undo each other.
+-- Assumes nothing.
+use mathlib.Core.Path.{_≡_, refl}
+use mathlib.Core.Bool.{Bool, true, false, cond, _&&_}
+use mathlib.Core.List.{List, [], _∷_, map}
+use Prim.Native.Nat.{ℕ, _-_, _≤_, _<_}
+use native.Mathlib.Omega.{arith}
+use lib.Dec.{leb, eqb}
+use borrow.Author.Tests.{leb-true, eqb-true, lt-ltb, le-ltb, le-leb, lt-leb}
+use Rattle.grid.specs.Characters.{charOf, digitOf}
+use Rattle.grid.proofs.Cut.{and-true, below, Below}
+
+-- ---- where a byte's digit is found
+
+module _ (b : ℕ) where
+  pub digit-below : b < 48 → 32 ≡ digitOf b
+  unfolding digitOf
+  digit-below h = rw (lt-leb 48 b h, lt-leb 65 b (omega arith)) refl
+
+  pub digit-decimal : 48 ≤ b → b < 58 → b - 48 ≡ digitOf b
+  unfolding digitOf
+  digit-decimal h k = rw (le-leb 48 b h, le-leb b 57 (omega arith)) refl
+
+  pub digit-between : 58 ≤ b → b < 65 → 32 ≡ digitOf b
+  unfolding digitOf
+  digit-between h k = rw (le-leb 48 b (omega arith), lt-leb b 57 (omega arith), lt-leb 65 b k) refl
+
+  pub digit-letter : 65 ≤ b → b < 87 → b - 55 ≡ digitOf b
+  unfolding digitOf
+  digit-letter h k = rw (le-leb 48 b (omega arith), lt-leb b 57 (omega arith), le-leb 65 b h, le-leb b 86 (omega arith)) refl
+
+  pub digit-above : 87 ≤ b → 32 ≡ digitOf b
+  unfolding digitOf
+  digit-above h = rw (le-leb 48 b (omega arith), lt-leb b 57 (omega arith), le-leb 65 b (omega arith), lt-leb b 86 (omega arith)) refl
+
+-- ---- the two ways undo each other
+
+pub digit-char : (v : ℕ) → v < 32 → digitOf (charOf v) ≡ v
+unfolding digitOf charOf
+digit-char v h = eqb-true _ v (below (λ v. eqb (digitOf (charOf v)) v) 32 v refl h)
+
+pub char-digit : (b : ℕ) → digitOf b < 32 → charOf (digitOf b) ≡ b
+unfolding digitOf charOf
+char-digit b = go (leb 48 b && leb b 57) refl
+  where
+    letters : (q : Bool) → (leb 65 b && leb b 86) ≡ q → cond q (b - 55) 32 < 32 → charOf (cond q (b - 55) 32) ≡ b
+    letters true e h =
+        let l : 65 ≤ b = leb-true 65 b (and-true (leb 65 b) (leb b 86) e .0) in
+        rw (le-ltb (b - 55) 10 (omega arith)) (omega arith)
+    letters false e h = absurd (omega arith)
+
+    go : (q : Bool) → (leb 48 b && leb b 57) ≡ q → cond q (b - 48) (cond (leb 65 b && leb b 86) (b - 55) 32) < 32
+        → charOf (cond q (b - 48) (cond (leb 65 b && leb b 86) (b - 55) 32)) ≡ b
+    go true e h =
+        let a = and-true (leb 48 b) (leb b 57) e in
+        let l : 48 ≤ b = leb-true 48 b (a .0) in
+        let m : b ≤ 57 = leb-true b 57 (a .1) in
+        rw (lt-ltb (b - 48) 10 (omega arith)) (omega arith)
+    go false e h = letters (leb 65 b && leb b 86) refl h
+
+pub digits-chars : (d : List ℕ) → Below 32 d → map digitOf (map charOf d) ≡ d
+digits-chars [] h = refl
+digits-chars (x ∷ d) h = rw (digit-char x (h .0), digits-chars d (h .1)) refl
+
+pub chars-digits : (w : List ℕ) → Below 32 (map digitOf w) → map charOf (map digitOf w) ≡ w
+chars-digits [] h = refl
+chars-digits (x ∷ w) h = rw (char-digit x (h .0), chars-digits w (h .1)) refl

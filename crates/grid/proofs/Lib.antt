@@ -1,0 +1,16 @@
+pub mod Cut
+pub mod Characters
+pub mod Laws
+pub mod Step
+pub mod Globe
+pub mod Poles
+pub mod Halting
+pub mod PlaneLaws
+pub mod Covering
+pub mod Families
+pub mod LayerLaws
+pub mod Places
+pub mod BothLaws
+pub mod Theorems
+pub mod Laying
+pub mod Cases

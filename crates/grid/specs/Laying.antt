@@ -1,0 +1,39 @@
+-- Laying a text into a lent line: one definition for every writer.
+-- Assumes nothing.
+use mathlib.Core.Bool.{Bool, true, false}
+use mathlib.Core.List.{List, _++_}
+use Prim.Native.Nat.{ℕ, _+_}
+use lib.Dec.{leb}
+use lib.ListN.{length, take, drop}
+use Rattle.grid.specs.declared.Refusal.{Refusal}
+use Rattle.grid.specs.declared.Written.{Written}
+use Rattle.grid.specs.declared.Written.the-variants.{Bytes, Refused}
+use Rattle.grid.specs.Answers.{Answer, accepted, refused, refusal}
+
+-- what is to be written, with every refusal but 5 decided, in the paper's order
+pub data Text : Type 0 where
+  refuse : Refusal → Text
+  text : List ℕ → Text
+
+-- refusal n where the test fails, else go on
+abbrev pub unless : Bool → ℕ → Text → Text
+unless true n t = t
+unless false n t = refuse (refusal n 0)
+
+-- 5: from the place given, the line lacks bytes for the whole code
+abbrev pub noRoom : Refusal
+noRoom = refusal 5 0
+
+abbrev pub laidIf : Bool → List ℕ → List ℕ → ℕ → Answer ℕ × List ℕ
+laidIf true w line at = (accepted (length w), take at line ++ w ++ drop (at + length w) line)
+laidIf false w line at = (refused noRoom, line)
+
+-- the answer, and the line afterwards: the text from the place on, the bytes before it and after it as they were; a refusal changes none
+unfoldable pub laid : Text → List ℕ → ℕ → Answer ℕ × List ℕ
+laid (refuse r) line at = (refused r, line)
+laid (text w) line at = laidIf (leb (at + length w) (length line)) w line at
+
+-- a writer's answer in the paper's numbers: the number of bytes, or the refusal
+abbrev pub written : Written → Answer ℕ
+written (Bytes n) = accepted n
+written (Refused r) = refused r

@@ -1,0 +1,13 @@
+pub mod Units
+pub mod Characters
+pub mod Tree
+pub mod Answers
+pub mod Codes
+pub mod Splits
+pub mod Cells
+pub mod Plane
+pub mod Layers
+pub mod Both
+pub mod Space
+pub mod Laying
+pub mod Demands

@@ -1,0 +1,78 @@
+-- Units, ranges and the unit square. A unit is 1/2048 arc-second; a position names a unit square by its west and south corner.
+-- Assumes nothing.
+use mathlib.Core.Bool.{Bool, true, false}
+use Prim.Native.Nat.{ℕ, _-_, _<_}
+use lib.IntN.{ℤ, pos, negsuc}
+use Rattle.grid.specs.declared.Place.{Place}
+
+-- one degree
+abbrev pub DEGREE : ℕ
+DEGREE = 7372800
+
+-- 360°, 180° and 90°
+abbrev pub TURN : ℕ
+TURN = 2654208000
+
+abbrev pub HALF : ℕ
+HALF = 1327104000
+
+abbrev pub QUARTER : ℕ
+QUARTER = 663552000
+
+-- 88°, where the ordinary cells end, and 89°, where the belt ends and the disc begins
+abbrev pub POLAR : ℕ
+POLAR = 648806400
+
+abbrev pub DISC : ℕ
+DISC = 656179200
+
+-- the layers above ground, and as many below
+abbrev pub LAYERS : ℕ
+LAYERS = 1887436800
+
+-- which side of 0 a number lies on: true for 0 and above
+abbrev pub side : ℤ → Bool
+side (pos n) = true
+side (negsuc n) = false
+
+-- the outward index: u where u is 0 or more, -1 - u where it is negative (`negsuc n` is -1 - n)
+abbrev pub index : ℤ → ℕ
+index (pos n) = n
+index (negsuc n) = n
+
+-- the number on a side with an index
+abbrev pub unit : Bool → ℕ → ℤ
+unit true n = pos n
+unit false n = negsuc n
+
+-- the longitude taken eastward, 0 to a turn less one
+abbrev pub eastward : ℤ → ℕ
+eastward (pos n) = n
+eastward (negsuc n) = TURN - 1 - n
+
+-- the distance from the pole: 663,551,999 minus the latitude index
+abbrev pub fromPole : ℤ → ℕ
+fromPole v = QUARTER - 1 - index v
+
+-- a unit square, by its west and south corner
+pub record Square : Type 0 where
+  pub longitude : ℤ
+  pub latitude : ℤ
+
+-- the square of a place: its sides and outward indices
+abbrev pub squareOf : Place → Square
+squareOf p = record { longitude = unit (p .east) (p .x); latitude = unit (p .north) (p .y) }
+
+-- both numbers lie in their ranges
+pub record OnGlobe (s : Square) : Type 0 where
+  pub longitude-in : index (s .longitude) < HALF
+  pub latitude-in : index (s .latitude) < QUARTER
+
+-- a unit cube: a square and a layer
+abbrev pub Cube : Type 0
+Cube = Square × ℤ
+
+-- the square lies on the globe, and the layer in its range
+pub record OnGrid (s : Cube) : Type 0 where
+  pub on-globe : OnGlobe (s .0)
+  pub layer-in : index (s .1) < LAYERS

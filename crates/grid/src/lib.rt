@@ -1,0 +1,283 @@
+// The rules of the BeiDou grid (document 01): units, the two tables, characters and digits, and what a reader hands back.
+// What the rules mean stands in specs/, and the theorems over them in proofs/Theorems.antt.
+
+ghost use mathlib.Core.Path.{_≡_};
+ghost use Prim.Native.Nat.{_<_};
+ghost use Rattle.grid.specs.Splits.{splitAt, polarCellAt};
+ghost use Rattle.grid.specs.Characters.{charOf, digitOf};
+
+// One level of the grid: a line of document 01's table, and what a polar cell and a cap divide into.
+pub struct Split {
+    pub columns: u32,
+    pub rows: u32,
+    pub width: u32,
+    pub height: u32,
+    pub characters: usize,
+    pub length: usize,
+    pub inward: u32,
+    pub ring: u32,
+}
+
+// Where a polar cell of level 2 begins: its west edge in eastward units, and the latitude index of its edge farther from the pole.
+pub struct PolarCell {
+    pub west: u32,
+    pub low: u32,
+}
+
+// A plane cell, as a reader hands it back.
+pub struct Cell {
+    pub level: u32,
+    pub west: i32,
+    pub south: i32,
+    pub width: u32,
+    pub height: u32,
+}
+
+// A space cell adds layer floor and thickness.
+pub struct SpaceCell {
+    pub cell: Cell,
+    pub floor: i32,
+    pub thickness: u32,
+}
+
+// A refusal: its number in document 01's table, the place of the first bad character, and which code it is about.
+pub struct Refusal {
+    pub number: u32,
+    pub place: usize,
+    pub ordinal: u32,
+}
+
+// A writer's answer: the number of bytes written, or a refusal.
+pub enum Written {
+    Bytes(usize),
+    Refused(Refusal),
+}
+
+// A plane reader's answer.
+pub enum PlaneRead {
+    Found(Cell),
+    Refused(Refusal),
+}
+
+// A position on the globe, by the side and the outward index of its longitude and of its latitude.
+pub struct Place {
+    pub east: bool,
+    pub north: bool,
+    pub x: u32,
+    pub y: u32,
+}
+
+const SPLITS: [Split; 10] = [
+    Split {
+        columns: 60,
+        rows: 22,
+        width: 44236800,
+        height: 29491200,
+        characters: 4,
+        length: 4,
+        inward: 1,
+        ring: 1,
+    },
+    Split {
+        columns: 12,
+        rows: 8,
+        width: 3686400,
+        height: 3686400,
+        characters: 2,
+        length: 6,
+        inward: 4,
+        ring: 3,
+    },
+    Split {
+        columns: 2,
+        rows: 3,
+        width: 1843200,
+        height: 1228800,
+        characters: 1,
+        length: 7,
+        inward: 2,
+        ring: 3,
+    },
+    Split {
+        columns: 15,
+        rows: 10,
+        width: 122880,
+        height: 122880,
+        characters: 2,
+        length: 9,
+        inward: 15,
+        ring: 15,
+    },
+    Split {
+        columns: 15,
+        rows: 15,
+        width: 8192,
+        height: 8192,
+        characters: 2,
+        length: 11,
+        inward: 15,
+        ring: 15,
+    },
+    Split {
+        columns: 2,
+        rows: 2,
+        width: 4096,
+        height: 4096,
+        characters: 1,
+        length: 12,
+        inward: 2,
+        ring: 2,
+    },
+    Split {
+        columns: 8,
+        rows: 8,
+        width: 512,
+        height: 512,
+        characters: 2,
+        length: 14,
+        inward: 8,
+        ring: 8,
+    },
+    Split {
+        columns: 8,
+        rows: 8,
+        width: 64,
+        height: 64,
+        characters: 2,
+        length: 16,
+        inward: 8,
+        ring: 8,
+    },
+    Split {
+        columns: 8,
+        rows: 8,
+        width: 8,
+        height: 8,
+        characters: 2,
+        length: 18,
+        inward: 8,
+        ring: 8,
+    },
+    Split {
+        columns: 8,
+        rows: 8,
+        width: 1,
+        height: 1,
+        characters: 2,
+        length: 20,
+        inward: 8,
+        ring: 8,
+    },
+];
+
+const POLAR_CELLS: [PolarCell; 16] = [
+    PolarCell {
+        west: 0,
+        low: 659865600,
+    },
+    PolarCell {
+        west: 0,
+        low: 656179200,
+    },
+    PolarCell {
+        west: 884736000,
+        low: 656179200,
+    },
+    PolarCell {
+        west: 1769472000,
+        low: 656179200,
+    },
+    PolarCell {
+        west: 0,
+        low: 648806400,
+    },
+    PolarCell {
+        west: 442368000,
+        low: 648806400,
+    },
+    PolarCell {
+        west: 0,
+        low: 652492800,
+    },
+    PolarCell {
+        west: 442368000,
+        low: 652492800,
+    },
+    PolarCell {
+        west: 884736000,
+        low: 648806400,
+    },
+    PolarCell {
+        west: 1327104000,
+        low: 648806400,
+    },
+    PolarCell {
+        west: 884736000,
+        low: 652492800,
+    },
+    PolarCell {
+        west: 1327104000,
+        low: 652492800,
+    },
+    PolarCell {
+        west: 2211840000,
+        low: 648806400,
+    },
+    PolarCell {
+        west: 1769472000,
+        low: 648806400,
+    },
+    PolarCell {
+        west: 2211840000,
+        low: 652492800,
+    },
+    PolarCell {
+        west: 1769472000,
+        low: 652492800,
+    },
+];
+
+// Level k + 1 of the table. Called with a literal it folds away.
+pub fn split_of(k: usize) -> Split
+    requires { ⌜ k < 10 ⌝ }
+    ensures { λ r. ⌜ r ≡ splitAt k ⌝ }
+{
+    SPLITS[k]
+}
+
+// The polar cell with the digits a and b, k being 4a + b.
+pub fn polar_cell(k: usize) -> PolarCell
+    requires { ⌜ k < 16 ⌝ }
+    ensures { λ r. ⌜ r ≡ polarCellAt k ⌝ }
+{
+    POLAR_CELLS[k]
+}
+
+// A digit's character.
+pub fn character(v: u32) -> u8
+    requires { ⌜ v < 32 ⌝ }
+    ensures { λ r. ⌜ r ≡ charOf v ⌝ }
+{
+    if v < 10 {
+        (48 + v) as u8
+    } else {
+        (55 + v) as u8
+    }
+}
+
+// A character's digit, 32 where it is no code character.
+pub fn digit(b: u8) -> u32
+    ensures { λ r. ⌜ r ≡ digitOf b ⌝ }
+{
+    let n = b as u32;
+    if n < 48 {
+        return 32;
+    }
+    if n < 58 {
+        return n - 48;
+    }
+    if n < 65 {
+        return 32;
+    }
+    if n < 87 { n - 55 } else { 32 }
+}
