@@ -116,7 +116,7 @@ module _ (K : Codes) (S : Sound K) where
   abbrev most : ℕ
   most = length (K .lengths)
 
-  length-level : (l : ℕ) → 1 ≤ l → l ≤ most → placeIn (len l) 1 (K .lengths) ≡ some l
+  pub length-level : (l : ℕ) → 1 ≤ l → l ≤ most → placeIn (len l) 1 (K .lengths) ≡ some l
   length-level zero a b = absurd (omega arith)
   length-level (suc l) a b = isSome-of _ (suc l) (below (λ l. isSome (placeIn (len (suc l)) 1 (K .lengths)) (suc l)) most l (S .place-test) b)
 
@@ -128,7 +128,7 @@ module _ (K : Codes) (S : Sound K) where
       go true e t = leb-true i j e
       go false e t = let z : len j < len i = ltb-true _ _ t in absurd (omega arith)
 
-  level-length : (n l : ℕ) → placeIn n 1 (K .lengths) ≡ some l → (1 ≤ l) × (l ≤ most) × (n ≡ len l)
+  pub level-length : (n l : ℕ) → placeIn n 1 (K .lengths) ≡ some l → (1 ≤ l) × (l ≤ most) × (n ≡ len l)
   level-length n l e =
       let t = place-of n 1 (K .lengths) l e in
       let h : t .0 < most = t .1 in

@@ -2,12 +2,14 @@
 -- Assumes nothing.
 use mathlib.Core.Path.{_≡_, refl, sym, _∙_, ap, subst}
 use mathlib.Core.Bool.{Bool, true, false}
-use mathlib.Core.List.{List, _++_, append-assoc}
-use Prim.Native.Nat.{ℕ, _+_, _≤_, _<_}
+use mathlib.Core.List.{List, _++_, append-assoc, append-nil}
+use Prim.Native.Nat.{ℕ, _+_, _-_, _≤_, _<_}
+use native.Mathlib.Nat.{zero-add}
 use native.Mathlib.Omega.{arith}
 use lib.Dec.{leb}
-use lib.ListN.{length, take, drop, length-append, length-take}
-use lib.Seq.{take-at, drop-at, length-take-le, drop-drop}
+use lib.ListN.{length, take, drop, length-drop, drop-of-length-le}
+use lib.Seq.{take-at, drop-at, take-all, length-take-le, drop-drop, sets, sets-eq}
+use borrow.Rule.Slice.PartMut.{putMid}
 use borrow.Author.Tests.{leb-true, le-leb, lt-leb}
 use Rattle.grid.specs.declared.Refusal.{Refusal}
 use Rattle.grid.specs.declared.Cell.{Cell}
@@ -95,3 +97,33 @@ unfolding laid
 laid-bytes {t} {w} line at n e l h =
     subst (λ (k : ℕ). (written (written-as.Bytes k), take at line ++ w ++ drop (at + k) line) ≡ laid t line at) l
     (rw (e, le-leb (at + length w) (length line) (omega arith)) refl)
+
+-- ---- the line lent on from a place: what is stored from the start of the part stands in the whole line
+
+pub part-stored : (old : List ℕ) (at : ℕ) (w : List ℕ) → at + length w ≤ length old
+    → putMid at (length old - at) old (sets (take (length old - at) (drop at old)) 0 w) ≡ take at old ++ w ++ drop (at + length w) old
+part-stored old at w h =
+    let whole : take (length old - at) (drop at old) ≡ drop at old = take-all (length old - at) (drop at old) (rw length-drop (omega arith)) in
+    let room : 0 + length w ≤ length (drop at old) = rw length-drop (omega arith) in
+    rw (
+      whole,
+      sets-eq w (drop at old) 0 room,
+      zero-add,
+      drop-drop (length w) at old,
+      drop-drop (length old - at) at old,
+      drop-of-length-le old {i = at + (length old - at)} (omega arith),
+      append-nil (w ++ drop (at + length w) old),
+    )
+    (sym (append-assoc (take at old) w (drop (at + length w) old)))
+
+pub laid-lent : {t : Text} {w last : List ℕ} (line : List ℕ) (at n : ℕ) → t ≡ text w → length w ≡ n → at ≤ length line → n ≤ length line - at
+    → last ≡ sets (take (length line - at) (drop at line)) 0 w → (written (written-as.Bytes n), putMid at (length line - at) line last) ≡ laid t line at
+laid-lent {t} {w} line at n e l ha hn s =
+    let f : at + n ≤ length line = omega arith in
+    rw (s, part-stored line at w (omega arith), l) (laid-bytes line at n e l f)
+
+pub laid-past : {t : Text} {w : List ℕ} (line : List ℕ) (at n : ℕ) → t ≡ text w → length w ≡ n → length line < at → (written (written-as.Refused noRoom), line) ≡ laid t line at
+laid-past line at n e l h = laid-no-room line at n e l (omega arith)
+
+pub laid-short : {t : Text} {w : List ℕ} (line : List ℕ) (at n : ℕ) → t ≡ text w → length w ≡ n → at ≤ length line → length line - at < n → (written (written-as.Refused noRoom), line) ≡ laid t line at
+laid-short line at n e l h k = laid-no-room line at n e l (omega arith)
