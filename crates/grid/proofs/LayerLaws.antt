@@ -171,15 +171,21 @@ module _ (top : ℕ) where
       subst (λ (x : Stack). GoodStack ts x) (ok-inj (q .1)) (record { even = E .rest; fit = omega (arith, en, fi) })
   good t ts (part a low n) (v ∷ x ∷ w) m g e = clash (cc)
 
+  all-sized : (r : ℕ) (w : List ℕ) (m : Stack) → allChild top r w ≡ ok m → length w ≡ 3
+  all-sized r [] m e = clash (cc)
+  all-sized r (s ∷ []) m e = clash (cc)
+  all-sized r (s ∷ a ∷ []) m e = clash (cc)
+  all-sized r (s ∷ a ∷ b ∷ []) m e = refl
+  all-sized r (s ∷ a ∷ b ∷ x ∷ w) m e = clash (cc)
+
+  part-sized : (r : ℕ) (a : Bool) (low n : ℕ) (w : List ℕ) (m : Stack) → partChild r a low n w ≡ ok m → length w ≡ 1
+  part-sized r a low n [] m e = clash (cc)
+  part-sized r a low n (v ∷ []) m e = refl
+  part-sized r a low n (v ∷ x ∷ w) m e = clash (cc)
+
   pub sized : (t : Radix) (ts : List Radix) (n : Stack) (w : List ℕ) (m : Stack) → GoodStack (t ∷ ts) n → stackChild top (t .radix) n w ≡ ok m → length w ≡ t .characters
-  sized t ts all [] m g e = clash (cc)
-  sized t ts all (s ∷ []) m g e = clash (cc)
-  sized t ts all (s ∷ a ∷ []) m g e = clash (cc)
-  sized t ts all (s ∷ a ∷ b ∷ []) m g e = even-of 3 100 t ts top g .characters
-  sized t ts all (s ∷ a ∷ b ∷ x ∷ w) m g e = clash (cc)
-  sized t ts (part a low n) [] m g e = clash (cc)
-  sized t ts (part a low n) (v ∷ []) m g e = even-of 1 32 t ts n (g .even) .characters
-  sized t ts (part a low n) (v ∷ x ∷ w) m g e = clash (cc)
+  sized t ts all w m g e = all-sized (t .radix) w m e ∙ even-of 3 100 t ts top g .characters
+  sized t ts (part a low n) w m g e = part-sized (t .radix) a low n w m e ∙ even-of 1 32 t ts n (g .even) .characters
 
   pub small : (t : Radix) (ts : List Radix) (n : Stack) (w : List ℕ) (m : Stack) → GoodStack (t ∷ ts) n → stackChild top (t .radix) n w ≡ ok m → Below 32 w
   small t ts all [] m g e = clash (cc)
@@ -219,18 +225,6 @@ module _ (top : ℕ) where
       (negsuc (top - 1 - low), record { on = omega arith; sees = refl; from = omega arith; to = omega arith })
 
   -- ---- a refusal's place
-
-  all-sized : (r : ℕ) (w : List ℕ) (m : Stack) → allChild top r w ≡ ok m → length w ≡ 3
-  all-sized r [] m e = clash (cc)
-  all-sized r (s ∷ []) m e = clash (cc)
-  all-sized r (s ∷ a ∷ []) m e = clash (cc)
-  all-sized r (s ∷ a ∷ b ∷ []) m e = refl
-  all-sized r (s ∷ a ∷ b ∷ x ∷ w) m e = clash (cc)
-
-  part-sized : (r : ℕ) (a : Bool) (low n : ℕ) (w : List ℕ) (m : Stack) → partChild r a low n w ≡ ok m → length w ≡ 1
-  part-sized r a low n [] m e = clash (cc)
-  part-sized r a low n (v ∷ []) m e = refl
-  part-sized r a low n (v ∷ x ∷ w) m e = clash (cc)
 
   part-halts : (r : ℕ) (a : Bool) (low n : ℕ) (w : List ℕ) (p : ℕ) → 0 < r → length w ≡ 1 → partChild r a low n w ≡ bad p → Halts (partChild r a low n) 1 w p
   part-halts r a low n [] p h l e = absurd (omega arith)

@@ -51,6 +51,7 @@ use Rattle.grid.proofs.Step.{
   Allowed,
   In,
   InCell,
+  Inside,
   exact,
   Exact,
   exact-of,
@@ -323,27 +324,24 @@ pub cap-positive : (ts : List Split) (h : ℕ) → GoodCap ts h → 0 < h
 cap-positive [] h g = ltb-true 0 h (g .even)
 cap-positive (t ∷ ts) h g = let E = cap-exact t ts h g in positive _ _ _ (E .some-r) (E .some-h) (E .high)
 
+-- a square at the start of a box of a quarter
+quarter-some : (n e : Bool) (b : Box) → b .x + b .w ≤ 1327104000 → b .y + b .h ≤ 663552000 → (0 < b .w) × (0 < b .h)
+    → (s : Square) × OnGlobe s × ((side (s .latitude) ≡ n) × (side (s .longitude) ≡ e)) × Inside b (index (s .longitude)) (index (s .latitude))
+quarter-some n e b hw hh p = (
+  record { longitude = unit e (b .x); latitude = unit n (b .y) },
+  record { longitude-in = rw (index-unit e (b .x)) (omega arith); latitude-in = rw (index-unit n (b .y)) (omega arith) },
+  (side-unit n (b .y), side-unit e (b .x)),
+  rw (index-unit e (b .x), index-unit n (b .y)) (record { xl = omega arith; xu = omega arith; yl = omega arith; yu = omega arith }),
+)
+
 cell-some : (f : Frame) (b : Box) → Fit f b → (0 < b .w) × (0 < b .h) → (s : Square) × InCell f b s
 cell-some (ordinary n e) b g p =
-    let hw : b .x + b .w ≤ 1327104000 = g .wide in
-    let hh : b .y + b .h ≤ 648806400 = g .high in (
-      record { longitude = unit e (b .x); latitude = unit n (b .y) },
-      record {
-        on = record { longitude-in = rw (index-unit e (b .x)) (omega arith); latitude-in = rw (index-unit n (b .y)) (omega arith) };
-        sees = (side-unit n (b .y), side-unit e (b .x));
-        inside = rw (index-unit e (b .x), index-unit n (b .y)) (record { xl = omega arith; xu = omega arith; yl = omega arith; yu = omega arith });
-      },
-    )
+    let h : b .y + b .h ≤ 648806400 = g .high in
+    let q = quarter-some n e b (g .wide) (omega arith) p in
+    (q .0, record { on = q .1; sees = q .2; inside = q .3 })
 cell-some (belt n e) b g p =
-    let hw : b .x + b .w ≤ 1327104000 = g .wide in
-    let hh : b .y + b .h ≤ 663552000 = g .high in (
-      record { longitude = unit e (b .x); latitude = unit n (b .y) },
-      record {
-        on = record { longitude-in = rw (index-unit e (b .x)) (omega arith); latitude-in = rw (index-unit n (b .y)) (omega arith) };
-        sees = (side-unit n (b .y), side-unit e (b .x));
-        inside = rw (index-unit e (b .x), index-unit n (b .y)) (record { xl = omega arith; xu = omega arith; yl = omega arith; yu = omega arith });
-      },
-    )
+    let q = quarter-some n e b (g .wide) (g .high) p in
+    (q .0, record { on = q .1; sees = q .2; inside = q .3 })
 cell-some (disc n) b g p =
     let hw : b .x + b .w ≤ 2654208000 = g .wide in
     let hh : b .y + b .h ≤ 7372800 = g .high in
