@@ -27,13 +27,13 @@ use Rattle.grid.proofs.Places.{
   second-agree,
 }
 
-first-mix : (q : Bool) (k : ℕ) (a b : List ℕ) → length a ≡ k → (0 < length a) × (0 < length b) → firstOf q k (mix q a b) ≡ a
+pub first-mix : (q : Bool) (k : ℕ) (a b : List ℕ) → length a ≡ k → (0 < length a) × (0 < length b) → firstOf q k (mix q a b) ≡ a
 first-mix false k a b e h = take-at a b k e
 first-mix true k [] b e h = let z : 0 < 0 = h .0 in absurd (omega arith)
 first-mix true k (x ∷ a) [] e h = let z : 0 < 0 = h .1 in absurd (omega arith)
 first-mix true k (x ∷ a) (y ∷ b) e h = let s : suc (length a) ≡ k = e in ap (λ t. x ∷ t) (take-at a b (k - 1) (omega arith))
 
-second-mix : (q : Bool) (k : ℕ) (a b : List ℕ) → length a ≡ k → (0 < length a) × (0 < length b) → secondOf q k (mix q a b) ≡ b
+pub second-mix : (q : Bool) (k : ℕ) (a b : List ℕ) → length a ≡ k → (0 < length a) × (0 < length b) → secondOf q k (mix q a b) ≡ b
 second-mix false k a b e h = drop-at a b k e
 second-mix true k [] b e h = let z : 0 < 0 = h .0 in absurd (omega arith)
 second-mix true k (x ∷ a) [] e h = let z : 0 < 0 = h .1 in absurd (omega arith)
@@ -45,7 +45,7 @@ mix-back true k [] h = let z : 0 < 0 = h .0 in absurd (omega arith)
 mix-back true k (x ∷ []) h = let z : 0 < 0 = h .1 in absurd (omega arith)
 mix-back true k (x ∷ y ∷ w) h = ap (λ t. x ∷ y ∷ t) (take-append-drop (k - 1) w)
 
-length-mix : (q : Bool) (a b : List ℕ) → length (mix q a b) ≡ length a + length b
+pub length-mix : (q : Bool) (a b : List ℕ) → length (mix q a b) ≡ length a + length b
 length-mix false a b = length-append a b
 length-mix true [] b = omega arith
 length-mix true (x ∷ a) [] = omega arith
@@ -77,7 +77,7 @@ abbrev pub eachAdds : (A B : Tree) → List (Pair A B) → Bool
 eachAdds A B [] = true
 eachAdds A B (t ∷ ts) = (ltb 0 (A .size (t .one)) && ltb 0 (B .size (t .two))) && eachAdds A B ts
 
-adds : (A B : Tree) (t : Pair A B) (ts : List (Pair A B)) → eachAdds A B (t ∷ ts) ≡ true → (0 < A .size (t .one)) × (0 < B .size (t .two)) × (eachAdds A B ts ≡ true)
+pub adds : (A B : Tree) (t : Pair A B) (ts : List (Pair A B)) → eachAdds A B (t ∷ ts) ≡ true → (0 < A .size (t .one)) × (0 < B .size (t .two)) × (eachAdds A B ts ≡ true)
 adds A B t ts e =
     let a = and-true (ltb 0 (A .size (t .one)) && ltb 0 (B .size (t .two))) (eachAdds A B ts) e in
     let b = and-true (ltb 0 (A .size (t .one))) (ltb 0 (B .size (t .two))) (a .0) in

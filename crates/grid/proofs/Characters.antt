@@ -1,37 +1,62 @@
 -- Characters and digits: where a byte's digit is found, and that the two ways undo each other.
 -- Assumes nothing.
-use mathlib.Core.Path.{_≡_, refl}
+use mathlib.Core.Path.{_≡_, refl, _∙_}
 use mathlib.Core.Bool.{Bool, true, false, cond, _&&_}
 use mathlib.Core.List.{List, [], _∷_, map}
-use Prim.Native.Nat.{ℕ, _-_, _≤_, _<_}
+use Prim.Native.Nat.{ℕ, _+_, _-_, _%_, _^_, _≤_, _<_}
 use native.Mathlib.Omega.{arith}
-use lib.Dec.{leb, eqb}
-use borrow.Author.Tests.{leb-true, eqb-true, lt-ltb, le-ltb, le-leb, lt-leb}
+use lib.Dec.{ltb, leb, eqb}
+use borrow.Author.Tests.{ltb-true, ltb-false, leb-true, eqb-true, lt-ltb, le-ltb, le-leb, lt-leb}
 use Rattle.grid.specs.Characters.{charOf, digitOf}
 use Rattle.grid.proofs.Cut.{and-true, below, Below}
 
 -- ---- where a byte's digit is found
 
 module _ (b : ℕ) where
-  pub digit-below : b < 48 → 32 ≡ digitOf b
+  digit-below : b < 48 → 32 ≡ digitOf b
   unfolding digitOf
   digit-below h = rw (lt-leb 48 b h, lt-leb 65 b (omega arith)) refl
 
-  pub digit-decimal : 48 ≤ b → b < 58 → b - 48 ≡ digitOf b
+  digit-decimal : 48 ≤ b → b < 58 → b - 48 ≡ digitOf b
   unfolding digitOf
   digit-decimal h k = rw (le-leb 48 b h, le-leb b 57 (omega arith)) refl
 
-  pub digit-between : 58 ≤ b → b < 65 → 32 ≡ digitOf b
+  digit-between : 58 ≤ b → b < 65 → 32 ≡ digitOf b
   unfolding digitOf
   digit-between h k = rw (le-leb 48 b (omega arith), lt-leb b 57 (omega arith), lt-leb 65 b k) refl
 
-  pub digit-letter : 65 ≤ b → b < 87 → b - 55 ≡ digitOf b
+  digit-letter : 65 ≤ b → b < 87 → b - 55 ≡ digitOf b
   unfolding digitOf
   digit-letter h k = rw (le-leb 48 b (omega arith), lt-leb b 57 (omega arith), le-leb 65 b h, le-leb b 86 (omega arith)) refl
 
-  pub digit-above : 87 ≤ b → 32 ≡ digitOf b
+  digit-above : 87 ≤ b → 32 ≡ digitOf b
   unfolding digitOf
   digit-above h = rw (le-leb 48 b (omega arith), lt-leb b 57 (omega arith), le-leb 65 b (omega arith), lt-leb b 86 (omega arith)) refl
+
+-- by its distances from '0' and from 'A', taken around the 32 bits
+module _ (b d : ℕ) (e : (d + 48) % 2 ^ 32 ≡ b) where
+  pub near-zero : d < 10 → d ≡ digitOf b
+  near-zero h =
+      let f : d ≡ b - 48 = omega arith in
+      f ∙ digit-decimal b (omega arith) (omega arith)
+
+  module _ (l : ℕ) (f : (l + 65) % 2 ^ 32 ≡ b) (h : 10 ≤ d) where
+    pub near-a : l < 22 → l + 10 ≡ digitOf b
+    near-a k =
+        let g : l + 10 ≡ b - 55 = omega arith in
+        g ∙ digit-letter b (omega arith) (omega arith)
+
+    pub near-neither : 22 ≤ l → d < 2 ^ 32 → l < 2 ^ 32 → b < 256 → 32 ≡ digitOf b
+    near-neither k u v w = go (ltb b 48) refl (ltb b 65) refl
+      where
+        go : (p : Bool) → ltb b 48 ≡ p → (q : Bool) → ltb b 65 ≡ q → 32 ≡ digitOf b
+        go true p q r = digit-below b (ltb-true b 48 p)
+        go false p true r =
+            let x : 48 ≤ b = ltb-false b 48 p in
+            digit-between b (omega arith) (ltb-true b 65 r)
+        go false p false r =
+            let x : 65 ≤ b = ltb-false b 65 r in
+            digit-above b (omega arith)
 
 -- ---- the two ways undo each other
 

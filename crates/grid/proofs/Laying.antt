@@ -127,3 +127,11 @@ laid-past line at n e l h = laid-no-room line at n e l (omega arith)
 
 pub laid-short : {t : Text} {w : List ℕ} (line : List ℕ) (at n : ℕ) → t ≡ text w → length w ≡ n → at ≤ length line → length line - at < n → (written (written-as.Refused noRoom), line) ≡ laid t line at
 laid-short line at n e l h k = laid-no-room line at n e l (omega arith)
+
+-- the same, where the refusal is known by an equation
+pub laid-past-by : {t : Text} {w : List ℕ} {r : Refusal} (line : List ℕ) (at n : ℕ) → r ≡ noRoom → t ≡ text w → length w ≡ n → length line < at → (written (written-as.Refused r), line) ≡ laid t line at
+laid-past-by line at n q e l h = rw q (laid-past line at n e l h)
+
+pub laid-short-by : {t : Text} {w : List ℕ} {r : Refusal} (line : List ℕ) (at n : ℕ) → r ≡ noRoom → t ≡ text w → length w ≡ n → at ≤ length line → length line - at < n
+    → (written (written-as.Refused r), line) ≡ laid t line at
+laid-short-by line at n q e l h k = rw q (laid-short line at n e l h k)

@@ -266,18 +266,14 @@ pub fn character(v: u32) -> u8
 }
 
 // A character's digit, 32 where it is no code character.
+// The two tests compile to conditional moves: which of them a character passes cannot be foretold.
 pub fn digit(b: u8) -> u32
     ensures { λ r. ⌜ r ≡ digitOf b ⌝ }
 {
-    let n = b as u32;
-    if n < 48 {
-        return 32;
+    let decimal = std::num::wrapping_sub_u32(b as u32, 48);
+    if decimal < 10 {
+        return decimal;
     }
-    if n < 58 {
-        return n - 48;
-    }
-    if n < 65 {
-        return 32;
-    }
-    if n < 87 { n - 55 } else { 32 }
+    let letter = std::num::wrapping_sub_u32(b as u32, 65);
+    if letter < 22 { letter + 10 } else { 32 }
 }

@@ -1,0 +1,257 @@
+//! What a careful Rust programmer would write by hand: straight-line functions with constant divisors, refusals included.
+//! They do the same work as the library's calls on ordinary cells, and answer None for a polar one (the benchmark has a polar row of its own,
+//! which is held against the library's own ordinary time).
+
+pub const REFUSED_POLAR: u32 = 99;
+
+#[derive(Clone, Copy, PartialEq, Debug)]
+pub struct Refusal {
+    pub number: u32,
+    pub place: u64,
+}
+
+#[derive(Clone, Copy, PartialEq, Debug)]
+pub struct Cell {
+    pub level: u32,
+    pub west: i32,
+    pub south: i32,
+    pub width: u32,
+    pub height: u32,
+}
+
+const LENGTHS: [usize; 11] = [0, 4, 6, 7, 9, 11, 12, 14, 16, 18, 20];
+const WIDTHS: [u32; 11] = [0, 44_236_800, 3_686_400, 1_843_200, 122_880, 8_192, 4_096, 512, 64, 8, 1];
+const HEIGHTS: [u32; 11] = [0, 29_491_200, 3_686_400, 1_228_800, 122_880, 8_192, 4_096, 512, 64, 8, 1];
+
+fn refuse(number: u32) -> Result<usize, Refusal> {
+    Err(Refusal { number, place: 0 })
+}
+
+#[inline(always)]
+fn index(u: i64) -> u64 {
+    (u ^ (u >> 63)) as u64
+}
+
+#[inline(always)]
+fn hex(v: u32) -> u8 {
+    (if v < 10 { 48 + v } else { 55 + v }) as u8
+}
+
+/// The plane code's characters after the checks; `out` has room for the level's length.
+#[inline(always)]
+fn put(level: usize, west: bool, south: bool, x: u32, y: u32, out: &mut [u8]) {
+    let out = &mut out[..LENGTHS[level]];
+    let c = x / 44_236_800;
+    let z = if west { 30 - c } else { 31 + c };
+    out[0] = if south { b'S' } else { b'N' };
+    out[1] = (48 + z / 10) as u8;
+    out[2] = (48 + z % 10) as u8;
+    out[3] = (65 + y / 29_491_200) as u8;
+    if level < 2 {
+        return;
+    }
+    out[4] = hex(x / 3_686_400 % 12);
+    out[5] = hex(y / 3_686_400 % 8);
+    if level < 3 {
+        return;
+    }
+    out[6] = hex(2 * (y / 1_228_800 % 3) + x / 1_843_200 % 2);
+    if level < 4 {
+        return;
+    }
+    out[7] = hex(x / 122_880 % 15);
+    out[8] = hex(y / 122_880 % 10);
+    if level < 5 {
+        return;
+    }
+    out[9] = hex(x / 8_192 % 15);
+    out[10] = hex(y / 8_192 % 15);
+    if level < 6 {
+        return;
+    }
+    out[11] = hex(2 * (y / 4_096 % 2) + x / 4_096 % 2);
+    if level < 7 {
+        return;
+    }
+    out[12] = hex(x / 512 % 8);
+    out[13] = hex(y / 512 % 8);
+    if level < 8 {
+        return;
+    }
+    out[14] = hex(x / 64 % 8);
+    out[15] = hex(y / 64 % 8);
+    if level < 9 {
+        return;
+    }
+    out[16] = hex(x / 8 % 8);
+    out[17] = hex(y / 8 % 8);
+    if level < 10 {
+        return;
+    }
+    out[18] = hex(x % 8);
+    out[19] = hex(y % 8);
+}
+
+#[inline(never)]
+pub fn plane_write(level: i64, longitude: i64, latitude: i64, line: &mut [u8], at: usize) -> Result<usize, Refusal> {
+    if !(1..=10).contains(&level) {
+        return refuse(1);
+    }
+    let (x, y) = (index(longitude), index(latitude));
+    if x >= 1_327_104_000 {
+        return refuse(2);
+    }
+    if y >= 663_552_000 {
+        return refuse(3);
+    }
+    let n = LENGTHS[level as usize];
+    if at > line.len() || line.len() - at < n {
+        return refuse(5);
+    }
+    if y >= 648_806_400 {
+        return refuse(REFUSED_POLAR);
+    }
+    put(level as usize, longitude < 0, latitude < 0, x as u32, y as u32, &mut line[at..]);
+    Ok(n)
+}
+
+#[inline(always)]
+fn value(b: u8) -> u32 {
+    match b {
+        b'0'..=b'9' => (b - 48) as u32,
+        b'A'..=b'V' => (b - 55) as u32,
+        _ => 32,
+    }
+}
+
+#[inline(always)]
+fn level_of(n: usize) -> usize {
+    match n {
+        4 => 1,
+        6 => 2,
+        7 => 3,
+        9 => 4,
+        11 => 5,
+        12 => 6,
+        14 => 7,
+        16 => 8,
+        18 => 9,
+        20 => 10,
+        _ => 0,
+    }
+}
+
+macro_rules! digit {
+    ($code:ident, $place:expr, $bound:expr) => {{
+        let v = value($code[$place]);
+        if v >= $bound {
+            return Err(Refusal { number: 7, place: $place as u64 });
+        }
+        v
+    }};
+}
+
+macro_rules! pair {
+    ($code:ident, $x:ident, $y:ident, $place:expr, $cols:expr, $rows:expr, $w:expr, $h:expr) => {{
+        $x += digit!($code, $place, $cols) * $w;
+        $y += digit!($code, $place + 1, $rows) * $h;
+    }};
+}
+
+macro_rules! single {
+    ($code:ident, $x:ident, $y:ident, $place:expr, $rows:expr, $w:expr, $h:expr) => {{
+        let v = digit!($code, $place, 2 * $rows);
+        $x += v % 2 * $w;
+        $y += v / 2 * $h;
+    }};
+}
+
+#[inline(always)]
+fn read_rest(code: &[u8], level: usize, x: &mut u32, y: &mut u32) -> Result<(), Refusal> {
+    let (mut a, mut b) = (*x, *y);
+    let code = &code[..LENGTHS[level]];
+    'done: {
+        if level < 2 {
+            break 'done;
+        }
+        pair!(code, a, b, 4, 12, 8, 3_686_400, 3_686_400);
+        if level < 3 {
+            break 'done;
+        }
+        single!(code, a, b, 6, 3, 1_843_200, 1_228_800);
+        if level < 4 {
+            break 'done;
+        }
+        pair!(code, a, b, 7, 15, 10, 122_880, 122_880);
+        if level < 5 {
+            break 'done;
+        }
+        pair!(code, a, b, 9, 15, 15, 8_192, 8_192);
+        if level < 6 {
+            break 'done;
+        }
+        single!(code, a, b, 11, 2, 4_096, 4_096);
+        if level < 7 {
+            break 'done;
+        }
+        pair!(code, a, b, 12, 8, 8, 512, 512);
+        if level < 8 {
+            break 'done;
+        }
+        pair!(code, a, b, 14, 8, 8, 64, 64);
+        if level < 9 {
+            break 'done;
+        }
+        pair!(code, a, b, 16, 8, 8, 8, 8);
+        if level < 10 {
+            break 'done;
+        }
+        pair!(code, a, b, 18, 8, 8, 1, 1);
+    }
+    *x = a;
+    *y = b;
+    Ok(())
+}
+
+#[inline(always)]
+fn cell(level: usize, west: bool, south: bool, x: u32, y: u32) -> Cell {
+    let (w, h) = (WIDTHS[level], HEIGHTS[level]);
+    Cell {
+        level: level as u32,
+        west: if west { -((x + w) as i32) } else { x as i32 },
+        south: if south { -((y + h) as i32) } else { y as i32 },
+        width: w,
+        height: h,
+    }
+}
+
+#[inline(never)]
+pub fn plane_read(code: &[u8]) -> Result<Cell, Refusal> {
+    let level = level_of(code.len());
+    if level == 0 {
+        return Err(Refusal { number: 6, place: 0 });
+    }
+    let south = match code[0] {
+        b'N' => false,
+        b'S' => true,
+        _ => return Err(Refusal { number: 7, place: 0 }),
+    };
+    let tens = digit!(code, 1, 7);
+    let ones = digit!(code, 2, 10);
+    let z = 10 * tens + ones;
+    if z > 60 {
+        return Err(Refusal { number: 7, place: 2 });
+    }
+    if z == 0 {
+        return Err(Refusal { number: REFUSED_POLAR, place: 0 });
+    }
+    let row = digit!(code, 3, 32);
+    if row < 10 {
+        return Err(Refusal { number: 7, place: 3 });
+    }
+    let west = z < 31;
+    let mut x = if west { 30 - z } else { z - 31 } * 44_236_800;
+    let mut y = (row - 10) * 29_491_200;
+    read_rest(code, level, &mut x, &mut y)?;
+    Ok(cell(level, west, south, x, y))
+}

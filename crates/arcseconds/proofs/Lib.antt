@@ -1,0 +1,7 @@
+pub mod Whole
+pub mod Pattern
+pub mod Number
+pub mod Exact
+pub mod Corner
+pub mod Meaning
+pub mod Theorems

@@ -1,0 +1,83 @@
+-- Arc-second readings in whole units (document 01, "Arc-seconds"; refusals 11, 2, 3).
+-- A finite f64 is its sign s, whole significand m and power of two e: m * 2 ^ e, below 0 where s is true; 2 ^ e is `up e` / `down e`.
+-- Assumes nothing.
+use mathlib.Core.Bool.{Bool, true, false, not, cond, _||_}
+use Prim.Native.Nat.{ℕ, zero, suc, _*_, _/_, _<_}
+use lib.IntN.{ℤ, pos, negsuc, negℤ, sucℤ, _*ℤ_}
+use lib.Signed.{_≤ℤ_, _<ℤ_}
+use lib.Dec.{T, ltb}
+use lib.Ieee.{Float, nan, inf, fin, up, down, isNan}
+use Rattle.grid.specs.Units.{HALF, QUARTER, index}
+use Rattle.grid.specs.Answers.{Answer, accepted, refused, refusal}
+use Rattle.arcseconds.specs.declared.Units.{Units}
+use Rattle.arcseconds.specs.declared.UnitsRead.{UnitsRead}
+use Rattle.arcseconds.specs.declared.UnitsRead.the-variants.{Found, Refused}
+use Rattle.arcseconds.specs.declared.Reading.{Reading}
+use Rattle.arcseconds.specs.declared.Reading.the-variants.{Whole, Outside}
+
+-- the greatest whole number not above n / d, or not above - n / d where s is true
+abbrev pub greatestWhole : Bool → ℕ → ℕ → ℤ
+greatestWhole false n d = pos (n / d)
+greatestWhole true zero d = pos 0
+greatestWhole true (suc n) d = negsuc (n / d)
+
+-- a unit number in a range that ends half units either way from 0
+abbrev pub inRange : ℕ → ℤ → Reading
+inRange half u = cond (ltb (index u) half) (Whole u) Outside
+
+-- one reading: the greatest whole units not above 2048 times it; either infinity is outside every range
+unfoldable pub readingOf : ℕ → Float → Reading
+readingOf half nan = Outside
+readingOf half (inf s) = Outside
+readingOf half (fin s m e) = inRange half (greatestWhole s (2048 * (m * up e)) (down e))
+
+abbrev pub units : ℤ → ℤ → Units
+units u v = record { longitude = u; latitude = v }
+
+-- 2: longitude outside its range, then 3: latitude outside its range
+unfoldable pub unitsAt : Reading → Reading → Answer Units
+unitsAt Outside y = refused (refusal 2 0)
+unitsAt (Whole u) Outside = refused (refusal 3 0)
+unitsAt (Whole u) (Whole v) = accepted (units u v)
+
+-- 11: either reading is not a number; then 2, then 3
+unfoldable pub unitsOf : Float → Float → Answer Units
+unitsOf x y = cond (isNan x || isNan y) (refused (refusal 11 0)) (unitsAt (readingOf HALF x) (readingOf QUARTER y))
+
+-- the answer in the paper's numbers: the units, or the refusal
+abbrev pub unitsRead : UnitsRead → Answer Units
+unitsRead (Found u) = accepted u
+unitsRead (Refused r) = refused r
+
+-- ---- what it means that units are the greatest whole ones not above a reading
+
+abbrev pub signed : Bool → ℕ → ℤ
+signed false n = pos n
+signed true n = negℤ (pos n)
+
+-- u ≤ 2048 * x < u + 1, multiplied clear of the power of two
+unfoldable pub Floors : Float → ℤ → Type 0
+Floors nan u = ⊥
+Floors (inf s) u = ⊥
+Floors (fin s m e) u =
+    ((u *ℤ pos (down e)) ≤ℤ signed s (2048 * (m * up e))) × (signed s (2048 * (m * up e)) <ℤ (sucℤ u *ℤ pos (down e)))
+
+-- and u lies in a range that ends half units either way from 0
+pub record FloorsIn (half : ℕ) (x : Float) (u : ℤ) : Type 0 where
+  pub floors : Floors x u
+  pub in-range : index u < half
+
+-- no number of the range is the greatest whole units not above x: it is not finite, or they lie outside
+abbrev pub Beyond : ℕ → Float → Type 0
+Beyond half x = (u : ℤ) → FloorsIn half x u → ⊥
+
+-- the answers to two readings, each with its reason, in the paper's order
+pub data Why (x y : Float) : Answer Units → Type 0 where
+  -- 11: either is not a number
+  eleven : T (isNan x || isNan y) → Why x y (refused (refusal 11 0))
+  -- 2: both are numbers, and the longitude lies outside its range
+  two : T (not (isNan x || isNan y)) → Beyond HALF x → Why x y (refused (refusal 2 0))
+  -- 3: both are numbers, the longitude lies in its range, and the latitude outside its own
+  three : {u : ℤ} → T (not (isNan x || isNan y)) → FloorsIn HALF x u → Beyond QUARTER y → Why x y (refused (refusal 3 0))
+  -- the position: the greatest whole units not above either, both in range
+  position : {u v : ℤ} → FloorsIn HALF x u → FloorsIn QUARTER y v → Why x y (accepted (units u v))

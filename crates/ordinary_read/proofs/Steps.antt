@@ -1,0 +1,185 @@
+-- The laws of a cursor's methods: where it starts, the child in a column and a row, and one level's characters read.
+-- Assumes nothing.
+use mathlib.Core.Path.{_≡_, refl, sym, _∙_, ap}
+use mathlib.Core.Bool.{Bool, true, false, cond, _&&_}
+use mathlib.Core.List.{List, [], _∷_, map}
+use Prim.Native.Nat.{ℕ, suc, _+_, _-_, _*_, _/_, _%_, _≤_, _<_}
+use native.Mathlib.Omega.{arith}
+use native.Mathlib.Numerals.{add-one}
+use lib.Dec.{ltb, leb}
+use lib.IntN.{ℤ}
+use lib.ListN.{length, getD, take, drop}
+use lib.Seq.{drop-cons}
+use borrow.Author.Tests.{lt-ltb, le-ltb, le-leb, lt-leb}
+use Rattle.grid.specs.declared.Split.{Split}
+use Rattle.grid.specs.Characters.{digitOf}
+use Rattle.grid.specs.Tree.{Read, ok, bad, guard, shift}
+use Rattle.grid.specs.Splits.{first}
+use Rattle.grid.specs.Answers.{accepted, refused, wrongCharacter}
+use Rattle.grid.specs.Plane.{Node, cell, ordinary, Form, pair, quad, formOf, plainPart, sub, sheet, readAs, least, cellFrom, planeCodes}
+use Rattle.grid.proofs.Cut.{clash, cut-end}
+use Rattle.ordinary_read.specs.declared.Cursor.{Cursor}
+use Rattle.ordinary_read.specs.Reading.{boxOf, readOf, digitsIn, onward, answerOf, Inside, Divides, Ready, Started, Child, Onward}
+
+-- ---- the cell of level 1
+
+module _ (n : Bool) (z column row : ℕ) where
+  abbrev pub begun : Split → Cursor
+  begun s =
+      record {
+        good = true;
+        north = n;
+        east = ltb 30 z;
+        place = s .length;
+        x = column * s .width;
+        y = row * s .height;
+        width = s .width;
+        height = s .height;
+      }
+
+  started : row < 22 → column < 30 → readOf (begun first) ≡ ok (sheet n z row) → Started n z row (begun first)
+  started k h e =
+      record {
+        read = e;
+        inside = record { across = omega arith; along = omega arith; some-width = omega arith; some-height = omega arith };
+        stands = record { wide = refl; high = refl; at = refl };
+      }
+
+  pub started-east : row < 22 → 30 < z → z ≤ 60 → column ≡ z - 31 → Started n z row (begun first)
+  started-east k h l e = started k (omega arith) (rw (lt-ltb 30 z h, e) refl)
+
+  pub started-west : row < 22 → 1 ≤ z → z ≤ 30 → column ≡ 30 - z → Started n z row (begun first)
+  started-west k l h e = started k (omega arith) (rw (le-ltb 30 z h, e) refl)
+
+-- ---- the child in a column and a row
+
+-- a cursor that was stopped is not good
+not-good : {A : Type 0} (c : Cursor) (p : ℕ) → readOf c ≡ bad p → c .good ≡ true → A
+not-good c p e g =
+    let z : cond true (ok (cell (ordinary (c .north) (c .east)) (boxOf c))) (bad (c .place)) ≡ bad p = rw g at e in
+    clash (cc)
+
+-- the child lies in its quarter
+pub record Lies (s : Split) (column row : ℕ) (c : Cursor) : Type 0 where
+  pub across : c .x + (column * s .width + s .width) ≤ 1327104000
+  pub along : c .y + (row * s .height + s .height) ≤ 648806400
+
+module _ (s : Split) (column row : ℕ) (c : Cursor) where
+  pub no-column : (r : Cursor) → s .columns ≤ column → readOf r ≡ bad (c .place) → Child s column row c r
+  no-column r h e = record { read = rw (le-ltb column (s .columns) h) e; reached = λ g. not-good r _ e g }
+
+  module _ (h : column < s .columns) where
+    pub no-row : (r : Cursor) → s .rows ≤ row → readOf r ≡ bad (s .length - 1) → Child s column row c r
+    no-row r k e = record { read = rw (lt-ltb column (s .columns) h, le-ltb row (s .rows) k) e; reached = λ g. not-good r _ e g }
+
+    module _ (k : row < s .rows) (i : Inside c) (d : Divides s c) where
+      pub lies : Lies s column row c
+      lies =
+          record {
+            across = omega (arith, cut-end column (s .columns) (s .width) (c .width) h (d .wide), i .across);
+            along = omega (arith, cut-end row (s .rows) (s .height) (c .height) k (d .high), i .along);
+          }
+
+      abbrev moved : Cursor
+      moved =
+          record {
+            good = true;
+            place = s .length;
+            north = c .north;
+            east = c .east;
+            x = c .x + column * s .width;
+            y = c .y + row * s .height;
+            width = s .width;
+            height = s .height;
+          }
+
+      pub child-moved : Child s column row c moved
+      child-moved =
+          record {
+            read = rw (lt-ltb column (s .columns) h, lt-ltb row (s .rows) k) refl;
+            reached = λ g. (
+              record { across = omega (arith, lies); along = omega (arith, lies); some-width = d .some-width; some-height = d .some-height },
+              record { wide = refl; high = refl; at = refl },
+            );
+          }
+
+-- ---- one level's characters
+
+-- the code ends before the level
+pub onward-ended : (s : Split) (w : List ℕ) (c : Cursor) → length w < s .length → Ready s (length w) c → Onward s w c c
+onward-ended s w c h p =
+    record { read = rw (lt-leb (s .length) (length w) h) refl; reached = λ g. (p g .0, λ k. absurd (omega arith)) }
+
+-- a character before it was not allowed
+pub onward-bad : (s : Split) (w : List ℕ) (p : ℕ) → bad p ≡ onward s w (bad p)
+onward-bad s w p = go (leb (s .length) (length w))
+  where
+    go : (q : Bool) → _≡_ {A = Read Node} (bad p) (cond q (bad p) (bad p))
+    go true = refl
+    go false = refl
+
+pub onward-stopped : (s : Split) (w : List ℕ) (c : Cursor) → c .good ≡ false → Onward s w c c
+onward-stopped s w c e = record { read = rw e (onward-bad s w (c .place)); reached = λ g. clash (cc) }
+
+-- two tests at their places
+pair-guards : {A : Type 0} (at l : ℕ) (a b : Bool) (x : A) → at + 1 ≡ l
+    → guard at a (guard l b (ok x)) ≡ shift at (guard 0 a (guard 1 (a && (b && true)) (ok x)))
+pair-guards at l true true x e = refl
+pair-guards at l true false x e = ap bad (sym e)
+pair-guards at l false b x e = ap bad (omega arith)
+
+single-guards : {A : Type 0} (at l p : ℕ) (a b : Bool) (x : A) → a ≡ true → at + 0 ≡ l
+    → guard p a (guard l b (ok x)) ≡ shift at (guard 0 (a && (b && true)) (ok x))
+single-guards at l p true true x t e = refl
+single-guards at l p true false x t e = ap bad (sym e)
+single-guards at l p false b x t e = clash (cc)
+
+one-digit : (w : List ℕ) (at : ℕ) → at + 1 ≤ length w → map digitOf (take 1 (drop at w)) ≡ digitOf (getD w at 0) ∷ []
+one-digit w at h = rw (drop-cons w at 0 (omega arith)) refl
+
+two-digits : (w : List ℕ) (at : ℕ) → at + 2 ≤ length w → map digitOf (take 2 (drop at w)) ≡ digitOf (getD w at 0) ∷ digitOf (getD w (at + 1) 0) ∷ []
+two-digits w at h = rw (drop-cons w at 0 (omega arith), drop-cons w (suc at) 0 (omega arith), add-one at) refl
+
+module _ (s : Split) (w : List ℕ) (c : Cursor) (h : s .length ≤ length w) (g : c .good ≡ true) (d : Divides s c) where
+  -- the child of the cursor's cell
+  abbrev childAt : ℕ → ℕ → Node
+  childAt column row = cell (ordinary (c .north) (c .east)) (sub (plainPart s) (boxOf c) column row)
+
+  here : s .length - s .characters ≡ c .place
+  here = omega (arith, d .at)
+
+  -- reading on reads the level's digits by its form
+  goes-on : (f : Form) (l : List ℕ) → formOf (s .characters) (s .columns) ≡ f → digitsIn s w ≡ l
+      → onward s w (readOf c) ≡ shift (c .place) (readAs f false (plainPart s) childAt l)
+  goes-on f l e k = rw (le-leb (s .length) (length w) h, g, k, e, here) refl
+
+  pub onward-pair : (a b : ℕ) (r : Cursor) → ¬ (s .characters ≡ 1) → a ≡ digitOf (getD w (c .place) 0) → b ≡ digitOf (getD w (c .place + 1) 0)
+      → Child s a b c r → Onward s w c r
+  onward-pair a b r t p q k =
+      let two : s .characters ≡ 2 = omega (arith, d .some-characters, d .few-characters) in
+      let l : digitsIn s w ≡ a ∷ b ∷ [] = rw (here, two, p, q) (two-digits w (c .place) (omega (arith, d .at))) in
+      record {
+        read = k .read ∙ pair-guards (c .place) (s .length - 1) (ltb a (s .columns)) (ltb b (s .rows)) (childAt a b) (omega (arith, d .at)) ∙ sym (goes-on pair (a ∷ b ∷ []) (rw two refl) l);
+        reached = λ x. (k .reached x .0, λ _. k .reached x .1);
+      }
+
+  pub onward-single : (a : ℕ) (r : Cursor) → s .characters ≡ 1 → a ≡ digitOf (getD w (c .place) 0)
+      → Child s (a % 2) (a / 2) c r → Onward s w c r
+  onward-single a r t p k =
+      let l : digitsIn s w ≡ a ∷ [] = rw (here, t, p) (one-digit w (c .place) (omega (arith, d .at))) in
+      let two : s .columns ≡ 2 = d .single t in
+      record {
+        read = k .read ∙ single-guards (c .place) (s .length - 1) (c .place) (ltb (a % 2) (s .columns)) (ltb (a / 2) (s .rows)) (childAt (a % 2) (a / 2)) (lt-ltb (a % 2) (s .columns) (omega arith)) (omega (arith, d .at)) ∙ sym (goes-on quad (a ∷ []) (rw (t, two) refl) l);
+        reached = λ x. (k .reached x .0, λ _. k .reached x .1);
+      }
+
+-- ---- the answer
+
+pub answer-refused : (l : ℕ) (c : Cursor) → c .good ≡ false → refused (wrongCharacter (c .place)) ≡ answerOf l (readOf c)
+unfolding answerOf planeCodes
+answer-refused l c g = rw g refl
+
+pub answer-found : (l : ℕ) (c : Cursor) {west south : ℤ} → c .good ≡ true → west ≡ least (c .east) (c .x) (c .width) → south ≡ least (c .north) (c .y) (c .height)
+    → accepted (cellFrom l west south (c .width) (c .height)) ≡ answerOf l (readOf c)
+unfolding answerOf planeCodes
+answer-found l c g e f = rw (g, e, f) refl

@@ -1,0 +1,135 @@
+-- `rest` meets its contract: the cursor goes through the nine levels, and they come to what the rules read. Assumes nothing.
+use mathlib.Core.Path.{_∙_}
+use native.Mathlib.Omega.{arith}
+use Prim.Native.Nat.{ℕ}
+use borrow.Author.Needs.{needs}
+use Rattle.grid.specs.Plane.{sheet}
+use Rattle.ordinary_read.specs.declared.Cursor.{Cursor}
+use Rattle.ordinary_read.proofs.Levels.{At, begins, ready, through, together}
+use Rattle.ordinary_read.proofs.rest.Statement.{statement}
+use Rattle.ordinary_read.proofs.rest.Tie as tie
+
+-- where the cursor stands after each level
+abbrev Stage : tie.Start → ℕ → Cursor → Type 0
+Stage s k c = At (s .args .code .now) (sheet (s .args .north) (s .args .zone) (s .args .row)) k c
+
+stage-0 : (c : tie.After-start) → Stage (c .before .before) 0 (c .start .result)
+stage-0 c = begins _ (c .start .ensures)
+
+stage-1 : (c : tie.After-next) → Stage (c .before .before .before .before) 1 (c .next .result)
+stage-1 c = through 0 (stage-0 (c .before .before)) (c .before .split-of .ensures) (c .next .ensures)
+
+stage-2 : (c : tie.After-next2) → Stage (c .before .before .before .before .before .before) 2 (c .next2 .result)
+stage-2 c = through 1 (stage-1 (c .before .before)) (c .before .split-of2 .ensures) (c .next2 .ensures)
+
+stage-3 : (c : tie.After-next3) → Stage (c .before .before .before .before .before .before .before .before) 3 (c .next3 .result)
+stage-3 c = through 2 (stage-2 (c .before .before)) (c .before .split-of3 .ensures) (c .next3 .ensures)
+
+stage-4 : (c : tie.After-next4) → Stage (c .before .before .before .before .before .before .before .before .before .before) 4 (c .next4 .result)
+stage-4 c = through 3 (stage-3 (c .before .before)) (c .before .split-of4 .ensures) (c .next4 .ensures)
+
+stage-5 : (c : tie.After-next5) → Stage (c .before .before .before .before .before .before .before .before .before .before .before .before) 5 (c .next5 .result)
+stage-5 c = through 4 (stage-4 (c .before .before)) (c .before .split-of5 .ensures) (c .next5 .ensures)
+
+stage-6 : (c : tie.After-next6) → Stage (c .before .before .before .before .before .before .before .before .before .before .before .before .before .before) 6 (c .next6 .result)
+stage-6 c = through 5 (stage-5 (c .before .before)) (c .before .split-of6 .ensures) (c .next6 .ensures)
+
+stage-7 : (c : tie.After-next7) → Stage (c .before .before .before .before .before .before .before .before .before .before .before .before .before .before .before .before) 7 (c .next7 .result)
+stage-7 c = through 6 (stage-6 (c .before .before)) (c .before .split-of7 .ensures) (c .next7 .ensures)
+
+stage-8 : (c : tie.After-next8) → Stage (c .before .before .before .before .before .before .before .before .before .before .before .before .before .before .before .before .before .before) 8 (c .next8 .result)
+stage-8 c = through 7 (stage-7 (c .before .before)) (c .before .split-of8 .ensures) (c .next8 .ensures)
+
+stage-9 : (c : tie.After-next9) → Stage (c .before .before .before .before .before .before .before .before .before .before .before .before .before .before .before .before .before .before .before .before) 9 (c .next9 .result)
+stage-9 c = through 8 (stage-8 (c .before .before)) (c .before .split-of9 .ensures) (c .next9 .ensures)
+
+start-requires : tie.Need-start-requires
+start-requires c κs = search needs
+
+split-of-requires : tie.Need-split-of-requires
+split-of-requires c κs = search needs
+
+next-requires : tie.Need-next-requires
+next-requires c κs = ready 0 (stage-0 (c .before)) (c .split-of .ensures) (omega arith)
+
+split-of-requires-2 : tie.Need-split-of-requires-2
+split-of-requires-2 c κs = search needs
+
+next-requires-2 : tie.Need-next-requires-2
+next-requires-2 c κs = ready 1 (stage-1 (c .before)) (c .split-of2 .ensures) (omega arith)
+
+split-of-requires-3 : tie.Need-split-of-requires-3
+split-of-requires-3 c κs = search needs
+
+next-requires-3 : tie.Need-next-requires-3
+next-requires-3 c κs = ready 2 (stage-2 (c .before)) (c .split-of3 .ensures) (omega arith)
+
+split-of-requires-4 : tie.Need-split-of-requires-4
+split-of-requires-4 c κs = search needs
+
+next-requires-4 : tie.Need-next-requires-4
+next-requires-4 c κs = ready 3 (stage-3 (c .before)) (c .split-of4 .ensures) (omega arith)
+
+split-of-requires-5 : tie.Need-split-of-requires-5
+split-of-requires-5 c κs = search needs
+
+next-requires-5 : tie.Need-next-requires-5
+next-requires-5 c κs = ready 4 (stage-4 (c .before)) (c .split-of5 .ensures) (omega arith)
+
+split-of-requires-6 : tie.Need-split-of-requires-6
+split-of-requires-6 c κs = search needs
+
+next-requires-6 : tie.Need-next-requires-6
+next-requires-6 c κs = ready 5 (stage-5 (c .before)) (c .split-of6 .ensures) (omega arith)
+
+split-of-requires-7 : tie.Need-split-of-requires-7
+split-of-requires-7 c κs = search needs
+
+next-requires-7 : tie.Need-next-requires-7
+next-requires-7 c κs = ready 6 (stage-6 (c .before)) (c .split-of7 .ensures) (omega arith)
+
+split-of-requires-8 : tie.Need-split-of-requires-8
+split-of-requires-8 c κs = search needs
+
+next-requires-8 : tie.Need-next-requires-8
+next-requires-8 c κs = ready 7 (stage-7 (c .before)) (c .split-of8 .ensures) (omega arith)
+
+split-of-requires-9 : tie.Need-split-of-requires-9
+split-of-requires-9 c κs = search needs
+
+next-requires-9 : tie.Need-next-requires-9
+next-requires-9 c κs = ready 8 (stage-8 (c .before)) (c .split-of9 .ensures) (omega arith)
+
+answer-requires : tie.Need-answer-requires
+answer-requires c κs g = stage-9 c .reached g .0
+
+returns : tie.Need-returns
+returns c =
+    let s = c .before .before .before .before .before .before .before .before .before .before .before .before .before .before .before .before .before .before .before .before .before in
+    c .answer .ensures ∙ together _ _ _ (s .pre .some-level) (s .pre .last-level) (s .pre .length-is) (stage-9 (c .before))
+
+pub rest-spec : {M : Type 1} → statement M
+rest-spec =
+    tie.close
+    (tie.spec
+    start-requires
+    split-of-requires
+    next-requires
+    split-of-requires-2
+    next-requires-2
+    split-of-requires-3
+    next-requires-3
+    split-of-requires-4
+    next-requires-4
+    split-of-requires-5
+    next-requires-5
+    split-of-requires-6
+    next-requires-6
+    split-of-requires-7
+    next-requires-7
+    split-of-requires-8
+    next-requires-8
+    split-of-requires-9
+    next-requires-9
+    answer-requires
+    returns)

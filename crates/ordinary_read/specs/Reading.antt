@@ -1,0 +1,113 @@
+-- What a cursor of the ordinary reader means, and what each of its methods makes of it.
+-- Assumes nothing.
+use mathlib.Core.Path.{_≡_}
+use mathlib.Core.Bool.{Bool, true, cond}
+use mathlib.Core.List.{List, map}
+use Prim.Native.Nat.{ℕ, _+_, _-_, _*_, _≤_, _<_}
+use lib.Dec.{ltb, leb}
+use lib.ListN.{length, take, drop}
+use Rattle.grid.specs.declared.Split.{Split}
+use Rattle.grid.specs.declared.Cell.{Cell}
+use Rattle.grid.specs.Units.{HALF, POLAR}
+use Rattle.grid.specs.Characters.{digitOf}
+use Rattle.grid.specs.Tree.{Read, ok, bad, guard, next}
+use Rattle.grid.specs.Answers.{Answer}
+use Rattle.grid.specs.Codes.{answer}
+use Rattle.grid.specs.Splits.{first, splitAt}
+use Rattle.grid.specs.Plane.{Box, Node, cell, ordinary, plainPart, sub, sheet, childOf, planeCodes}
+use Rattle.ordinary_read.specs.declared.Cursor.{Cursor}
+
+-- ---- what a cursor means
+
+-- from where its cell begins, as large as it is
+abbrev pub boxOf : Cursor → Box
+boxOf c = record { x = c .x; w = c .width; y = c .y; h = c .height }
+
+-- the cell read so far, or the place of the first character that is not allowed
+abbrev pub readOf : Cursor → Read Node
+readOf c = cond (c .good) (ok (cell (ordinary (c .north) (c .east)) (boxOf c))) (bad (c .place))
+
+-- ---- what reading does
+
+-- the digits of the level s: its characters end where the code of that level ends
+abbrev pub digitsIn : Split → List ℕ → List ℕ
+digitsIn s w = map digitOf (take (s .characters) (drop (s .length - s .characters) w))
+
+-- what was read, and then the level s, where the code w has it
+abbrev pub onward : Split → List ℕ → Read Node → Read Node
+onward s w r =
+    cond (leb (s .length) (length w)) (next (s .length - s .characters) r (λ n. childOf s n (digitsIn s w))) r
+
+-- the child in a column and a row of the cursor's cell: a column that the level s has not is bad at the cursor, a row at the level's last character
+abbrev pub childIn : Split → ℕ → ℕ → Cursor → Read Node
+childIn s column row c =
+    guard (c .place) (ltb column (s .columns))
+    (guard (s .length - 1) (ltb row (s .rows))
+    (ok (cell (ordinary (c .north) (c .east)) (sub (plainPart s) (boxOf c) column row))))
+
+-- what a plane reader answers for what was read in a code of level l
+unfoldable pub answerOf : ℕ → Read Node → Answer Cell
+unfolding planeCodes
+answerOf l r = answer planeCodes l r
+
+-- ---- where a good cursor stands
+
+-- its cell lies in its quarter, and is not empty
+pub record Inside (c : Cursor) : Type 0 where
+  pub across : c .x + c .width ≤ HALF
+  pub along : c .y + c .height ≤ POLAR
+  pub some-width : 0 < c .width
+  pub some-height : 0 < c .height
+
+-- its cell is as large as those of the level s, and the level's characters are read
+pub record Stands (s : Split) (c : Cursor) : Type 0 where
+  pub wide : c .width ≡ s .width
+  pub high : c .height ≡ s .height
+  pub at : c .place ≡ s .length
+
+-- the level s divides its cell, and the level's one or two characters come next
+pub record Divides (s : Split) (c : Cursor) : Type 0 where
+  pub wide : s .columns * s .width ≡ c .width
+  pub high : s .rows * s .height ≡ c .height
+  pub some-width : 0 < s .width
+  pub some-height : 0 < s .height
+  pub at : c .place + s .characters ≡ s .length
+  pub some-characters : 1 ≤ s .characters
+  pub few-characters : s .characters ≤ 2
+  pub single : s .characters ≡ 1 → s .columns ≡ 2
+
+-- before the level s, in a code of n characters: where the code has the level, it comes next
+abbrev pub Ready : Split → ℕ → Cursor → Type 0
+Ready s n c = c .good ≡ true → Inside c × (s .length ≤ n → Divides s c)
+
+-- after it: where the code has the level, it is read
+abbrev pub Reached : Split → ℕ → Cursor → Type 0
+Reached s n c = c .good ≡ true → Inside c × (s .length ≤ n → Stands s c)
+
+-- ---- what each method makes
+
+-- the cell of level 1
+pub record Started (north : Bool) (zone row : ℕ) (c : Cursor) : Type 0 where
+  pub read : readOf c ≡ ok (sheet north zone row)
+  pub inside : Inside c
+  pub stands : Stands first c
+
+-- the child in a column and a row
+pub record Child (s : Split) (column row : ℕ) (c r : Cursor) : Type 0 where
+  pub read : readOf r ≡ childIn s column row c
+  pub reached : r .good ≡ true → Inside r × Stands s r
+
+-- one level more
+pub record Onward (s : Split) (w : List ℕ) (c r : Cursor) : Type 0 where
+  pub read : readOf r ≡ onward s w (readOf c)
+  pub reached : Reached s (length w) r
+
+-- ---- what the reader is given: the zone and the row of a code, and its level, which its length n tells
+
+pub record Given (level zone row n : ℕ) : Type 0 where
+  pub some-level : 1 ≤ level
+  pub last-level : level ≤ 10
+  pub some-zone : 1 ≤ zone
+  pub last-zone : zone ≤ 60
+  pub last-row : row < 22
+  pub length-is : n ≡ splitAt (level - 1) .length

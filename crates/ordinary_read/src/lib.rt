@@ -1,0 +1,167 @@
+// Reads the rest of an ordinary plane code, after its zone and row (document 01, "Ten levels away from the poles").
+// The reading place is a value: a cursor, and each level read hands back the next one.
+
+ghost use mathlib.Core.Path.{_≡_};
+ghost use mathlib.Core.Bool.{true};
+ghost use Prim.Native.Nat.{_+_, _≤_, _<_};
+ghost use lib.ListN.{length};
+ghost use Rattle.grid.specs.Units.{HALF};
+ghost use Rattle.grid.specs.Tree.{bad};
+ghost use Rattle.grid.specs.Answers.{planeRead};
+ghost use Rattle.grid.specs.Plane.{sheet, least, restOf};
+ghost use Rattle.ordinary_read.specs.Reading.{
+  readOf,
+  answerOf,
+  Inside,
+  Divides,
+  Ready,
+  Started,
+  Child,
+  Onward,
+  Given,
+};
+use grid::Cell;
+use grid::PlaneRead;
+use grid::Refusal;
+use grid::Split;
+
+// The reading place, and the cell read so far: its quarter, the outward indices where it begins, and its size.
+// Once a character is not allowed the cursor is no longer good, and its place is that character's.
+// The bools stand together to keep it small: with eight bytes more the levels are no longer compiled into their caller.
+pub struct Cursor {
+    pub good: bool,
+    pub north: bool,
+    pub east: bool,
+    pub place: usize,
+    pub x: u32,
+    pub y: u32,
+    pub width: u32,
+    pub height: u32,
+}
+
+// The least of the n numbers on a side whose outward indices are from u on: 0 and up, or below 0.
+fn edge(up: bool, u: u32, n: u32) -> i32
+    requires { ⌜ (0 < n) × (u + n ≤ HALF) ⌝ }
+    ensures { λ r. ⌜ r ≡ least up u n ⌝ }
+{
+    if up {
+        u as i32
+    } else {
+        -1 - (u + n - 1) as i32
+    }
+}
+
+impl Cursor {
+    // At the cell of a zone and a row, after the first four characters.
+    fn start(north: bool, zone: u32, row: u32) -> Cursor
+        requires { ⌜ (1 ≤ zone) × (zone ≤ 60) × (row < 22) ⌝ }
+        ensures { λ r. ⌜ Started north zone row r ⌝ }
+    {
+        let s = grid::split_of(0);
+        let east = 30 < zone;
+        let column = if east { zone - 31 } else { 30 - zone };
+        Cursor {
+            good: true,
+            north: north,
+            east: east,
+            place: s.length,
+            x: column * s.width,
+            y: row * s.height,
+            width: s.width,
+            height: s.height,
+        }
+    }
+
+    // At a character that is not allowed.
+    fn stopped(mut self, place: usize) -> Cursor
+        ensures { λ r. ⌜ readOf r ≡ bad place ⌝ }
+    {
+        self.good = false;
+        self.place = place;
+        self
+    }
+
+    // At the child in a column and a row of the level s; or at the column's character, or the row's, where there is none.
+    fn child(self, s: Split, column: u32, row: u32) -> Cursor
+        requires { ⌜ Inside self × Divides s self ⌝ }
+        ensures { λ r. ⌜ Child s column row self r ⌝ }
+    {
+        if s.columns <= column {
+            return self.stopped(self.place);
+        }
+        if s.rows <= row {
+            return self.stopped(s.length - 1);
+        }
+        Cursor {
+            good: true,
+            north: self.north,
+            east: self.east,
+            place: s.length,
+            x: self.x + column * s.width,
+            y: self.y + row * s.height,
+            width: s.width,
+            height: s.height,
+        }
+    }
+
+    // Past the characters of the level s, where all before them were allowed and the code has them; else where it was.
+    // Two characters are column, then row; one is 2 · row + column.
+    fn next(self, s: Split, code: &[u8]) -> Cursor
+        requires { ⌜ Ready s (length (now code)) self ⌝ }
+        ensures { λ r. ⌜ Onward s (now (code .entry)) self r ⌝ }
+    {
+        if !self.good {
+            return self;
+        }
+        if code.len() < s.length {
+            return self;
+        }
+        let at = self.place;
+        let first = grid::digit(code[at]);
+        if s.characters == 1 {
+            return self.child(s, first % 2, first / 2);
+        }
+        let second = grid::digit(code[at + 1]);
+        self.child(s, first, second)
+    }
+
+    // What the reader answers.
+    fn answer(self, level: u32) -> PlaneRead
+        requires { ⌜ (self .good ≡ true → Inside self) ⌝ }
+        ensures { λ r. ⌜ planeRead r ≡ answerOf level (readOf self) ⌝ }
+    {
+        if !self.good {
+            return PlaneRead::Refused(Refusal {
+                number: 7,
+                place: self.place,
+                ordinal: 1,
+            });
+        }
+        PlaneRead::Found(Cell {
+            level: level,
+            west: edge(self.east, self.x, self.width),
+            south: edge(self.north, self.y, self.height),
+            width: self.width,
+            height: self.height,
+        })
+    }
+}
+
+// The cell of a code of a level in 1 to 10, or the place of its first character that is not allowed.
+// The first four characters are read: north or south, a zone of 1 to 60 and a row below 22.
+pub fn rest(level: u32, north: bool, zone: u32, row: u32, code: &[u8]) -> PlaneRead
+    requires { ⌜ Given level zone row (length (now code)) ⌝ }
+    ensures { λ r. ⌜ planeRead r ≡ restOf level (sheet north zone row) (now (code .entry)) ⌝ }
+{
+    Cursor::start(north, zone, row)
+        .next(grid::split_of(1), code)
+        .next(grid::split_of(2), code)
+        .next(grid::split_of(3), code)
+        .next(grid::split_of(4), code)
+        .next(grid::split_of(5), code)
+        .next(grid::split_of(6), code)
+        .next(grid::split_of(7), code)
+        .next(grid::split_of(8), code)
+        .next(grid::split_of(9), code)
+        .answer(level)
+}

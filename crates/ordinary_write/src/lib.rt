@@ -1,0 +1,82 @@
+// The writer of plane codes of ordinary positions, those whose latitude index is below 88° (document 01, "Ten levels away from the poles").
+// Levels are written one after the other, each over its line of the one table, and no character is written twice.
+
+ghost use mathlib.Core.Path.{_≡_};
+ghost use Prim.Native.Nat.{_≤_, _<_};
+ghost use lib.ListN.{length};
+ghost use lib.Seq.{sets};
+ghost use Rattle.grid.specs.Units.{HALF, POLAR, unit, squareOf};
+ghost use Rattle.grid.specs.Characters.{charOf};
+ghost use Rattle.grid.specs.Plane.{letter, zone, codeOf};
+ghost use Rattle.ordinary_write.specs.Writing.{Writable, Later, startOf, charsAt};
+use grid::Place;
+use grid::Split;
+
+// N or S.
+fn side(north: bool) -> u8
+    ensures { λ r. ⌜ r ≡ charOf (letter north) ⌝ }
+{
+    if north { b'N' } else { b'S' }
+}
+
+// The zone: columns count outward from the prime meridian, 31 and up east, 30 and down west.
+fn zone(east: bool, x: u32) -> u32
+    requires { ⌜ x < HALF ⌝ }
+    ensures { λ r. ⌜ r ≡ zone (unit east x) ⌝ }
+{
+    let s = grid::split_of(0);
+    if east {
+        31 + x / s.width
+    } else {
+        30 - x / s.width
+    }
+}
+
+// Level 1: N or S, the zone as two decimal digits, the row letter.
+fn put_first(p: Place, line: &mut [u8])
+    requires { ⌜ (p .x < HALF) × (p .y < POLAR) × (4 ≤ length (now line)) ⌝ }
+    ensures { λ _. ⌜ now (line .exit) ≡ sets (now (line .entry)) 0 (codeOf 1 (squareOf p)) ⌝ }
+{
+    let s = grid::split_of(0);
+    let z = zone(p.east, p.x);
+    line[0] = side(p.north);
+    line[1] = (48 + z / 10) as u8;
+    line[2] = (48 + z % 10) as u8;
+    line[3] = (65 + p.y / s.height) as u8;
+}
+
+// Level k + 1, a later one, over its split s: nothing where the code ends before it.
+fn put_level(level: u32, k: u32, s: Split, p: Place, line: &mut [u8])
+    requires { ⌜ Writable level p (now line) × Later k s ⌝ }
+    ensures { λ _. ⌜ now (line .exit) ≡ sets (now (line .entry)) (startOf k) (charsAt level k p) ⌝ }
+{
+    if level <= k {
+        return;
+    }
+    let at = s.length - s.characters;
+    let c = p.x / s.width % s.columns;
+    let r = p.y / s.height % s.rows;
+    if s.characters == 1 {
+        line[at] = grid::character(2 * r + c);
+    } else {
+        line[at] = grid::character(c);
+        line[at + 1] = grid::character(r);
+    }
+}
+
+// The code of a level from the line's beginning on; the bytes after it stay.
+pub fn put(level: u32, p: Place, line: &mut [u8])
+    requires { ⌜ Writable level p (now line) ⌝ }
+    ensures { λ _. ⌜ now (line .exit) ≡ sets (now (line .entry)) 0 (codeOf level (squareOf p)) ⌝ }
+{
+    put_first(p, line);
+    put_level(level, 1, grid::split_of(1), p, line);
+    put_level(level, 2, grid::split_of(2), p, line);
+    put_level(level, 3, grid::split_of(3), p, line);
+    put_level(level, 4, grid::split_of(4), p, line);
+    put_level(level, 5, grid::split_of(5), p, line);
+    put_level(level, 6, grid::split_of(6), p, line);
+    put_level(level, 7, grid::split_of(7), p, line);
+    put_level(level, 8, grid::split_of(8), p, line);
+    put_level(level, 9, grid::split_of(9), p, line);
+}

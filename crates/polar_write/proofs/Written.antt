@@ -1,0 +1,130 @@
+-- What is written of a polar place's code, and where it stands, after some levels.
+-- Assumes nothing.
+use mathlib.Core.Path.{_≡_, refl, sym, _∙_, ap, subst}
+use mathlib.Core.Bool.{Bool, true, false, cond}
+use mathlib.Core.List.{List, [], _++_, map}
+use Prim.Native.Nat.{ℕ, suc, _+_, _-_, _≤_, _<_, min}
+use native.Mathlib.Omega.{arith}
+use native.Mathlib.Nat.{zero-add}
+use lib.ListN.{length, take, length-map}
+use lib.Seq.{sets, length-sets}
+use lib.Dec.{ltb, leb, eqb}
+use borrow.Author.Tests.{ltb-true, ltb-false, leb-true, eqb-true}
+use Rattle.grid.specs.declared.Split.{Split}
+use Rattle.grid.specs.declared.Place.{Place}
+use Rattle.grid.specs.Units.{index, Square, OnGlobe, squareOf}
+use Rattle.grid.specs.Splits.{splits, splitAt}
+use Rattle.grid.specs.Tree.{code}
+use Rattle.grid.specs.Characters.{charOf}
+use Rattle.grid.specs.Plane.{Node, globe, polarCellOf, polarNode, plane, formOf, write, codeOf}
+use Rattle.grid.proofs.Cut.{allBelow, below}
+use Rattle.grid.proofs.Laws.{total, length-code}
+use Rattle.grid.proofs.PlaneLaws.{splits-fit, index-unit, side-unit, laws}
+use Rattle.polar_write.specs.declared.Spot.{Spot}
+use Rattle.polar_write.specs.declared.Step.{Step}
+use Rattle.polar_write.specs.Spots.{stepOf, added, placeOf, Stands, Ready, Gone, Polar, Started, Writable, spotIn}
+use Rattle.polar_write.proofs.Loops.{sets-append}
+use Rattle.polar_write.proofs.Table.{told}
+use Rattle.polar_write.proofs.Bounds.{spot-stands}
+use Rattle.polar_write.proofs.Reached.{nodeAt, spotAt, Reach, reach, second-node, moved, spot-suc, code-is, code-suc}
+
+-- where a level's characters begin
+pub code-length : (k : ℕ) (s : Square) → k < 10 → OnGlobe s → length (codeOf k s) ≡ placeOf (splitAt k)
+unfolding total
+code-length k s h o =
+    ap length (code-is k s) ∙ length-map (code plane (take k splits) globe s) charOf ∙ length-code plane laws (take k splits) globe s (splits-fit k (omega arith)) o
+    ∙ eqb-true _ _ (below (λ k. eqb (total plane (take k splits)) (placeOf (splitAt k))) 10 k refl h)
+
+-- codes of finer levels are longer
+pub longer : (k level : ℕ) → k < level → level ≤ 10 → splitAt k .length ≤ splitAt (level - 1) .length
+longer k level h l =
+    leb-true _ _ (below (λ k. leb (splitAt k .length) (splitAt (level - 1) .length)) level k (below (λ i. allBelow (λ k. leb (splitAt k .length) (splitAt (i - 1) .length)) i) 11 level refl (omega arith)) h)
+
+-- place k adds what one level more has
+module _ (level k : ℕ) (s : Square) (o : OnGlobe s) (h : k < 10) (d : Step)
+    (e : codeOf (suc k) s ≡ codeOf k s ++ map charOf (write (formOf (splitAt k .characters) (d .columns)) (d .column) (d .row))) (l : List ℕ) where
+  pub add-level : sets (sets l 0 (codeOf (min k level) s)) (placeOf (splitAt k)) (added level k (splitAt k) d) ≡ sets l 0 (codeOf (min (suc k) level) s)
+  unfolding added
+  add-level = go (ltb k level) refl
+    where
+      w : List ℕ
+      w = map charOf (write (formOf (splitAt k .characters) (d .columns)) (d .column) (d .row))
+
+      go : (q : Bool) → ltb k level ≡ q
+          → sets (sets l 0 (codeOf (min k level) s)) (placeOf (splitAt k)) (cond q w []) ≡ sets l 0 (codeOf (min (suc k) level) s)
+      go true p =
+          let b : k < level = ltb-true k level p in
+          let m : min k level ≡ k = omega arith in
+          let n : min (suc k) level ≡ suc k = omega arith in
+          rw (m, n, e) (sym (sets-append l 0 (codeOf k s) w ∙ ap (λ (i : ℕ). sets (sets l 0 (codeOf k s)) i w) (ap (λ (i : ℕ). 0 + i) (code-length k s h o) ∙ zero-add (placeOf (splitAt k)))))
+      go false p =
+          let b : level ≤ k = ltb-false k level p in
+          let m : min k level ≡ min (suc k) level = omega arith in
+          rw m refl
+
+-- after k levels: what was asked, the line, and the spot
+pub record Done (level k : ℕ) (p : Place) (before line : List ℕ) (r : Spot) : Type 0 where
+  pub asked : Writable level p before
+  pub text : line ≡ sets before 0 (codeOf (min k level) (squareOf p))
+  pub spot : r ≡ spotAt k (squareOf p)
+
+pub on-globe : (p : Place) → Polar p → OnGlobe (squareOf p) × (648806400 ≤ index (squareOf p .latitude))
+on-globe p h = (
+  record { longitude-in = rw (index-unit (p .east) (p .x)) (h .x-in); latitude-in = rw (index-unit (p .north) (p .y)) (h .y-in) },
+  rw (index-unit (p .north) (p .y)) (h .near),
+)
+
+-- the line is as long as it was
+pub same-room : {level k : ℕ} {p : Place} {before line : List ℕ} {r : Spot} → Done level k p before line r → length line ≡ length before
+same-room {level} {k} {p} {before} D = ap length (D .text) ∙ length-sets before 0 (codeOf (min k level) (squareOf p))
+
+-- one level more
+module _ (k : ℕ) (a : 2 ≤ k) (b : k < 10) {level : ℕ} {p : Place} {t : Split} {before line : List ℕ} {q : Spot} (z : t ≡ splitAt k) (D : Done level k p before line q) where
+  abbrev s : Square
+  s = squareOf p
+
+  on : OnGlobe s
+  on = on-globe p (D .asked .polar) .0
+
+  there : Reach k s
+  there = reach s on (on-globe p (D .asked .polar) .1) k a (omega arith)
+
+  pub onward : {after : List ℕ} {r : Spot} → Gone level k t q line after r → Done level (suc k) p before after r
+  onward {after} {r} H =
+      let G : Gone level k (splitAt k) q line after r = subst (λ (t : Split). Gone level k t q line after r) z H in
+      record {
+        asked = D .asked;
+        text =
+            G .laid
+            ∙ ap (λ (x : Spot). sets line (placeOf (splitAt k)) (added level k (splitAt k) (stepOf (splitAt k) x))) (D .spot)
+            ∙ ap (λ (x : List ℕ). sets x (placeOf (splitAt k)) (added level k (splitAt k) (stepOf (splitAt k) (spotAt k s)))) (D .text)
+            ∙ add-level level k s on b (stepOf (splitAt k) (spotAt k s)) (code-suc k s b ∙ ap (λ x. codeOf k s ++ map charOf x) (moved k s a b there .digits)) before;
+        spot = G .moved ∙ ap (λ (x : Spot). stepOf (splitAt k) x .rest) (D .spot) ∙ sym (spot-suc k s a b there);
+      }
+
+  pub ready : Ready level k t q line
+  ready =
+      record {
+        level-low = a;
+        level-high = b;
+        split = z;
+        stands = subst (λ (x : Spot). Stands (splitAt (k - 1) .width) x) (sym (D .spot)) (spot-stands (splitAt (k - 1) .width) (nodeAt k s) s (told k a b .high) (there .shape) (there .inside));
+        room = λ h.
+            (let l : length line ≡ length before = same-room D in
+            let m : t .length ≡ splitAt k .length = ap (λ (x : Split). x .length) z in
+            omega (arith, l, m, D .asked .room, longer k level h (D .asked .level-high)));
+      }
+
+-- the first two levels
+pub started : {level : ℕ} {p : Place} {before after : List ℕ} {r : Spot} → Writable level p before → Started level p before after r → Done level 2 p before after r
+started {level} {p} {before} {after} {r} W S =
+    let s = squareOf p in
+    let P = W .polar in
+    let e : nodeAt 2 s ≡ polarNode (p .north) (polarCellOf s) = second-node s (on-globe p P .0) (on-globe p P .1) ∙ ap (λ (b : Bool). polarNode b (polarCellOf s)) (side-unit (p .north) (p .y)) in
+    record { asked = W; text = S .laid; spot = S .stands ∙ ap (λ (n : Node). spotIn n s) (sym e) }
+
+-- all the levels
+pub finished : {level : ℕ} {p : Place} {before after : List ℕ} {r : Spot} → Done level 10 p before after r → after ≡ sets before 0 (codeOf level (squareOf p))
+finished {level} {p} {before} D =
+    let h : level ≤ 10 = D .asked .level-high in
+    D .text ∙ ap (λ (i : ℕ). sets before 0 (codeOf i (squareOf p))) (let m : min 10 level ≡ level = omega arith in m)

@@ -1,0 +1,32 @@
+-- `polar_write::divide` meets its contract. Assumes nothing.
+use Rattle.polar_write.specs.Spots.{stepOf}
+use borrow.Author.Needs.{needs}
+use Rattle.polar_write.proofs.divide.Statement.{statement}
+use Rattle.polar_write.proofs.divide.Tie as tie
+
+divide-cap-requires : tie.Need-divide-cap-requires
+divide-cap-requires c κs = search needs
+
+returns : tie.Need-returns
+unfolding stepOf
+returns c = rw (c .before .if1 .taken) (c .divide-cap .ensures)
+
+rem-t8 : tie.Need-rem-t8
+rem-t8 c = search needs
+
+rem-t9 : tie.Need-rem-t9
+rem-t9 c = search needs
+
+div-t8 : tie.Need-div-t8
+div-t8 c = search needs
+
+div-t9 : tie.Need-div-t9
+div-t9 c = search needs
+
+returns-2 : tie.Need-returns-2
+unfolding stepOf
+returns-2 c = simp (c .if1 .left)
+
+pub divide-spec : {M : Type 1} → statement M
+divide-spec =
+    tie.close (tie.spec divide-cap-requires returns rem-t8 rem-t9 div-t8 div-t9 returns-2)

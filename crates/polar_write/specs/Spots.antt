@@ -1,0 +1,128 @@
+-- Where a polar square stands in its cell from level 2 on, how one level moves it on, and the characters that the level adds.
+-- A cell that is no cap is seen as wide as it is high: x counts its width in as many parts as it has units of height.
+-- Assumes nothing.
+use mathlib.Core.Path.{_≡_}
+use mathlib.Core.Bool.{Bool, true, false, cond}
+use mathlib.Core.List.{List, [], _∷_, map}
+use Prim.Native.Nat.{ℕ, zero, suc, _+_, _-_, _*_, _/_, _%_, _≤_, _<_, min}
+use lib.Dec.{ltb}
+use lib.ListN.{length}
+use lib.Seq.{sets}
+use Rattle.grid.specs.declared.Split.{Split}
+use Rattle.grid.specs.declared.Place.{Place}
+use Rattle.grid.specs.Units.{TURN, HALF, QUARTER, POLAR, eastward, fromPole, Square, squareOf}
+use Rattle.grid.specs.Splits.{splitAt}
+use Rattle.grid.specs.Characters.{charOf}
+use Rattle.grid.specs.Plane.{Node, globe, pole, cell, cap, xIn, yIn, formOf, write, letter, polarCellOf, polarNode, codeOf}
+use Rattle.polar_write.specs.declared.Spot.{Spot}
+use Rattle.polar_write.specs.declared.Step.{Step}
+
+-- in a cap or not, and where
+abbrev pub spot : Bool → ℕ → ℕ → Spot
+spot c x y = record { cap = c; x = x; y = y }
+
+-- columns, the column and the row, and where in that child
+abbrev pub step : ℕ → ℕ → ℕ → Spot → Step
+step n c r s = record { columns = n; column = c; row = r; rest = s }
+
+-- where a square stands in a node: in a cap eastward and from the pole, in another cell from its corner in its own frame.
+-- The globe and N000 and S000 have no spots
+unfoldable pub spotIn : Node → Square → Spot
+spotIn globe s = spot false 0 0
+spotIn (pole n) s = spot false 0 0
+spotIn (cell f b) s = spot false ((xIn f s - b .x) / (b .w / b .h)) (yIn f s - b .y)
+spotIn (cap n h) s = spot true (eastward (s .longitude)) (fromPole (s .latitude))
+
+-- the width of a column of a cap's ring
+abbrev pub ringWidth : Split → ℕ
+ringWidth t = TURN / t .ring
+
+-- a cap, e eastward and q from the pole: row 0 is the new cap, another row leaves it
+abbrev pub capStep : Split → ℕ → ℕ → ℕ → Step
+capStep t e q zero = step (t .ring) 0 0 (spot true e q)
+capStep t e q (suc r) =
+    step (t .ring) (e / ringWidth t) (suc r) (spot false (e % ringWidth t / (ringWidth t / t .width)) (q % t .width))
+
+-- one level: near a pole the children of every cell are as high as the table's width
+abbrev pub stepAs : Bool → Split → ℕ → ℕ → Step
+stepAs true t x y = capStep t x y (y / t .width)
+stepAs false t x y = step (t .columns) (x / t .width) (y / t .width) (spot false (x % t .width) (y % t .width))
+
+-- the step of a spot
+unfoldable pub stepOf : Split → Spot → Step
+stepOf t s = stepAs (s .cap) t (s .x) (s .y)
+
+-- N000 or S000
+abbrev pub firstChars : Bool → List ℕ
+firstChars north = map charOf (letter north ∷ 0 ∷ 0 ∷ 0 ∷ [])
+
+-- what place k of the table, level k + 1, adds to the code of a level
+unfoldable pub added : ℕ → ℕ → Split → Step → List ℕ
+added level k t s = cond (ltb k level) (map charOf (write (formOf (t .characters) (s .columns)) (s .column) (s .row))) []
+
+-- where it begins
+abbrev pub placeOf : Split → ℕ
+placeOf t = t .length - t .characters
+
+-- a level's divisions have divisors
+pub record Divides (t : Split) : Type 0 where
+  pub wide : 0 < t .width
+  pub round : 0 < t .ring
+  pub parts : 0 < ringWidth t / t .width
+
+-- the digits of a step have characters, and the line has room for them
+pub record Fits (level k : ℕ) (t : Split) (s : Step) (line : List ℕ) : Type 0 where
+  pub room : k < level → t .length ≤ length line
+  pub starts : t .characters ≤ t .length
+  pub some : 1 ≤ t .characters
+  pub few : t .characters ≤ 2
+  pub column : s .column < 16
+  pub row : s .row < 16
+  pub single : s .row ≤ 1 + 100 * (t .characters - 1)
+
+-- a spot in a cell h high, or in a cap
+pub record Stands (h : ℕ) (s : Spot) : Type 0 where
+  pub across : s .x < cond (s .cap) TURN h
+  pub along : s .y < h
+
+-- place k of the table, from 2 on, can be gone down
+pub record Ready (level k : ℕ) (t : Split) (s : Spot) (line : List ℕ) : Type 0 where
+  pub level-low : 2 ≤ k
+  pub level-high : k < 10
+  pub split : t ≡ splitAt k
+  pub stands : Stands (splitAt (k - 1) .width) s
+  pub room : k < level → t .length ≤ length line
+
+-- gone down: the spot is moved, and the level's characters are laid down
+pub record Gone (level k : ℕ) (t : Split) (s : Spot) (before after : List ℕ) (r : Spot) : Type 0 where
+  pub moved : r ≡ stepOf t s .rest
+  pub laid : after ≡ sets before (placeOf t) (added level k t (stepOf t s))
+
+-- a polar place
+pub record Polar (p : Place) : Type 0 where
+  pub x-in : p .x < HALF
+  pub near : POLAR ≤ p .y
+  pub y-in : p .y < QUARTER
+
+-- the outer belt cell in the sixth of the turn that is i away from the prime meridian: east 10, 11, 20, west 30, 31, 21
+unfoldable pub beltCell : Bool → ℕ → ℕ
+beltCell true i = cond (ltb i 2) (4 + i) 8
+beltCell false i = cond (ltb i 2) (12 + i) 9
+
+-- the place's polar cell, by its two digits, and where the place stands in it
+pub record Begun (p : Place) (r : Step) : Type 0 where
+  pub first : r .column ≡ polarCellOf (squareOf p) / 4
+  pub second : r .row ≡ polarCellOf (squareOf p) % 4
+  pub stands : r .rest ≡ spotIn (polarNode (p .north) (polarCellOf (squareOf p))) (squareOf p)
+
+-- what the writer is called with
+pub record Writable (level : ℕ) (p : Place) (line : List ℕ) : Type 0 where
+  pub level-low : 1 ≤ level
+  pub level-high : level ≤ 10
+  pub polar : Polar p
+  pub room : splitAt (level - 1) .length ≤ length line
+
+-- the first two levels are written, as far as the level goes, and the place stands in its polar cell
+pub record Started (level : ℕ) (p : Place) (before after : List ℕ) (r : Spot) : Type 0 where
+  pub stands : r ≡ spotIn (polarNode (p .north) (polarCellOf (squareOf p))) (squareOf p)
+  pub laid : after ≡ sets before 0 (codeOf (min 2 level) (squareOf p))
