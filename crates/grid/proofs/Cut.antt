@@ -8,6 +8,7 @@ use mathlib.Core.Logic.{_⊎_, inl, inr}
 use native.Mathlib.Omega.{arith}
 use native.Mathlib.Nat.{div-lt-iff-lt-mul, div-mul-le-self, lt-div-mul-add, div-eq-of-lt-le, mul-le-mul-right, add-mul, one-mul, le-trans}
 use lib.Dec.{T, ltb, leb, eqb}
+use lib.ListN.{getD}
 use borrow.Author.Tests.{ltb-true, leb-true, eqb-true, eqb-false, lt-ltb, le-leb, eq-eqb}
 use Rattle.grid.specs.Tree.{Read, ok, bad, guard}
 
@@ -92,3 +93,13 @@ Below k (x ∷ xs) = (x < k) × Below k xs
 pub below-append : (k : ℕ) (a b : List ℕ) → Below k a → Below k b → Below k (a ++ b)
 below-append k [] b p q = q
 below-append k (x ∷ a) b p q = (p .0, below-append k a b (p .1) q)
+
+-- a table of bytes: each entry is what a rule gives
+pub record Entry (x y : ℕ) : Type 0 where
+  pub same : x ≡ y
+  pub small : x < 256
+
+pub tabled : (xs : List ℕ) (f : ℕ → ℕ) (n k : ℕ) → allBelow (λ i. eqb (getD xs i 0) (f i) && ltb (getD xs i 0) 256) n ≡ true → k < n → Entry (getD xs k 0) (f k)
+tabled xs f n k e h =
+    let a = and-true (eqb (getD xs k 0) (f k)) (ltb (getD xs k 0) 256) (below (λ i. eqb (getD xs i 0) (f i) && ltb (getD xs i 0) 256) n k e h) in
+    record { same = eqb-true _ _ (a .0); small = ltb-true _ 256 (a .1) }

@@ -1,0 +1,179 @@
+-- The height digits straight from a layer's rise: what the writer lays down, level by level.
+-- Assumes nothing.
+use mathlib.Core.Path.{_≡_, refl, sym, _∙_, ap, subst}
+use mathlib.Core.Bool.{Bool, true, false}
+use mathlib.Core.List.{List, [], _∷_, _++_, map}
+use Prim.Native.Nat.{ℕ, zero, suc, _+_, _-_, _*_, _/_, _%_, _≤_, _<_}
+use native.Mathlib.Omega.{arith}
+use native.Mathlib.Nat.{div-add-mod', div-lt-iff-lt-mul, mod-lt, mod-eq-of-lt, mul-add-mod-self-right, mul-add-div-right, mul-assoc, add-mul, mul-pos, mul-div-right}
+use native.Mathlib.Numerals.{add-one}
+use lib.IntN.{ℤ}
+use lib.ListN.{length, getD, take, drop, length-take}
+use lib.Seq.{take-take, take-suc}
+use borrow.Author.Tests.{lt-ltb, le-leb}
+use Rattle.grid.specs.Units.{side, index}
+use Rattle.grid.specs.Tree.{ok, code}
+use Rattle.grid.specs.Layers.{product, rise, sign, part, allChild, layers}
+use Rattle.grid.proofs.Cut.{clash, Below}
+use Rattle.layers.specs.Heights.{later, heightDigits}
+use Rattle.layers.specs.Steps.{fairLater, Fair, thicknessAt, digitAt}
+use Rattle.layers.proofs.Sides.{rise-below}
+use Rattle.layers.proofs.Radices.{later-fair, first-fair, product-some, ten}
+
+-- ---- a number X in a segment that is cut into k parts of length d
+
+module _ (X k d : ℕ) (some : 0 < k) (long : 0 < d) where
+  abbrev w : ℕ
+  w = k * d
+
+  -- where the part's own length says: X / d = q · k + the part
+  cut : X / d ≡ X / w * k + X % w / d
+  cut =
+      let e : X / w * w + X % w ≡ X = div-add-mod' X w in
+      let f : X / w * k * d + X % w ≡ X = ap (λ (z : ℕ). z + X % w) (mul-assoc (X / w) k d) ∙ e in
+      ap (λ (z : ℕ). z / d) (sym f) ∙ mul-add-div-right long (X / w * k) (X % w)
+
+  -- which of the parts holds it
+  pub part-direct : (X - X / w * w) / d ≡ X / d % k
+  part-direct =
+      let e : X / w * w + X % w ≡ X = div-add-mod' X w in
+      let a : X - X / w * w ≡ X % w = omega arith in
+      let m : X % w / d < k = div-lt-iff-lt-mul long .1 (mod-lt X (mul-pos some long)) in
+      ap (λ (z : ℕ). z / d) a ∙ sym (ap (λ (z : ℕ). z % k) cut ∙ mul-add-mod-self-right (X / w) k (X % w / d) ∙ mod-eq-of-lt m)
+
+  -- and where that part begins
+  pub begins-direct : X / w * w + X / d % k * d ≡ X / d * d
+  begins-direct =
+      let e : X / w * w + X % w ≡ X = div-add-mod' X w in
+      let a : X - X / w * w ≡ X % w = omega arith in
+      let p : X / d % k ≡ X % w / d = sym part-direct ∙ ap (λ (z : ℕ). z / d) a in
+      ap (λ (z : ℕ). X / w * w + z * d) p
+      ∙ ap (λ (z : ℕ). z + X % w / d * d) (sym (mul-assoc (X / w) k d))
+      ∙ sym (add-mul (X / w * k) (X % w / d) d)
+      ∙ sym (ap (λ (z : ℕ). z * d) cut)
+
+-- ---- the digits of the levels after the first
+
+unfoldable pub direct : List ℕ → ℕ → List ℕ
+direct [] X = []
+direct (r ∷ rs) X = (X / product rs % r) ∷ direct rs X
+
+code-later : (top : ℕ) (rs : List ℕ) (l : ℕ) (a : Bool) (z : ℤ) → fairLater rs ≡ true
+    → code (layers top) (take l (map later rs)) (part a (rise top z / product rs * product rs) (product rs)) z ≡ take l (direct rs (rise top z))
+unfolding code direct
+code-later top rs zero a z e = refl
+code-later top [] (suc l) a z e = refl
+code-later top (r ∷ rs) (suc l) a z e =
+    let f = later-fair r rs e in
+    let X = rise top z in
+    let P = product rs in
+    let p : 0 < P = product-some rs (f .rest) in
+    rw (
+      mul-div-right P {m = r} (f .more),
+      part-direct X r P (f .more) p,
+      lt-ltb (X / P % r) r (mod-lt (X / P) (f .more)),
+      begins-direct X r P (f .more) p,
+    )
+    (ap (λ ds. (X / P % r) ∷ ds) (code-later top rs l a z (f .rest)))
+
+pub length-direct : (rs : List ℕ) (X : ℕ) → length (direct rs X) ≡ length rs
+unfolding direct
+length-direct [] X = refl
+length-direct (r ∷ rs) X = ap suc (length-direct rs X)
+
+small-direct : (rs : List ℕ) (X l : ℕ) → fairLater rs ≡ true → Below 32 (take l (direct rs X))
+unfolding direct
+small-direct rs X zero e = tt
+small-direct [] X (suc l) e = tt
+small-direct (r ∷ rs) X (suc l) e =
+    let f = later-fair r rs e in
+    let m : X / product rs % r < r = mod-lt (X / product rs) (f .more) in
+    (omega (arith, f .few), small-direct rs X l (f .rest))
+
+at-direct : (rs : List ℕ) (X j : ℕ) → j < length rs → getD (direct rs X) j 0 ≡ X / product (drop (suc j) rs) % getD rs j 0
+unfolding direct
+at-direct [] X j h = absurd (omega arith)
+at-direct (r ∷ rs) X zero h = refl
+at-direct (r ∷ rs) X (suc j) h = at-direct rs X j (omega arith)
+
+-- ---- the sign and the two decimal digits
+
+sign-small : (b : Bool) → sign b < 2
+sign-small true = omega arith
+sign-small false = omega arith
+
+all-read : (top r d : ℕ) (b : Bool) → d < r → allChild top r (sign b ∷ (d / 10) ∷ (d % 10) ∷ []) ≡ ok (part b (d * (top / r)) (top / r))
+all-read top r d true h =
+    let e : 10 * (d / 10) + d % 10 ≡ d = omega arith in
+    rw (e, lt-ltb (10 * (d / 10)) r (omega arith), le-leb (d % 10) 9 (omega arith), lt-ltb d r h) refl
+all-read top r d false h =
+    let e : 10 * (d / 10) + d % 10 ≡ d = omega arith in
+    rw (e, lt-ltb (10 * (d / 10)) r (omega arith), le-leb (d % 10) 9 (omega arith), lt-ltb d r h) refl
+
+-- the digits of level l + 1
+abbrev pub straight : ℕ → List ℕ → ℕ → Bool → ℕ → List ℕ
+straight r rs l b X = sign b ∷ (X / product rs / 10) ∷ (X / product rs % 10) ∷ take l (direct rs X)
+
+pub height-straight : (r : ℕ) (rs : List ℕ) (l : ℕ) (z : ℤ) → Fair (r ∷ rs) → index z < product (r ∷ rs)
+    → heightDigits (r ∷ rs) (suc l) z ≡ straight r rs l (side z) (rise (product (r ∷ rs)) z)
+unfolding heightDigits code
+height-straight r rs l z e h =
+    let f = first-fair r rs e in
+    let X = rise (r * product rs) z in
+    let P = product rs in
+    let p : 0 < P = product-some rs (f .rest) in
+    let q : r * P / r ≡ P = mul-div-right P {m = r} (f .more) in
+    let d : X / (r * P / r) < r = rw q (div-lt-iff-lt-mul p .1 (rise-below (r * P) z h)) in
+    rw (all-read (r * P) r (X / (r * P / r)) (side z) d, q)
+    (ap (λ ds. sign (side z) ∷ (X / P / 10) ∷ (X / P % 10) ∷ ds) (code-later (r * P) rs l (side z) z (f .rest)))
+
+-- ---- a code's height digits, at every level
+
+-- two more than the level
+pub height-length : (rs : List ℕ) (l : ℕ) (z : ℤ) → Fair rs → index z < product rs → 1 ≤ l → l ≤ 10 → length (heightDigits rs l z) ≡ 2 + l
+height-length rs zero z e h a b = absurd (omega arith)
+height-length [] (suc l) z e h a b = clash (let t = e .test in cc)
+height-length (r ∷ rs) (suc l) z e h a b =
+    let X = rise (product (r ∷ rs)) z in
+    ap length (height-straight r rs l z e h)
+    ∙ omega (arith, length-take l (direct rs X), length-direct rs X, ten (r ∷ rs) e)
+
+-- each is a code character's
+pub height-small : (rs : List ℕ) (l : ℕ) (z : ℤ) → Fair rs → index z < product rs → Below 32 (heightDigits rs l z)
+unfolding heightDigits code
+height-small rs zero z e h = tt
+height-small [] (suc l) z e h = clash (let t = e .test in cc)
+height-small (r ∷ rs) (suc l) z e h =
+    let f = first-fair r rs e in
+    let X = rise (product (r ∷ rs)) z in
+    let m : r ≤ 100 = f .few in
+    let d : X / product rs < r = div-lt-iff-lt-mul (product-some rs (f .rest)) .1 (rise-below (product (r ∷ rs)) z h) in
+    subst (Below 32) (sym (height-straight r rs l z e h))
+    (omega (arith, sign-small (side z)), (omega arith, (omega arith, small-direct rs X l (f .rest))))
+
+-- those of a coarser level are the beginning of those of a finer one
+pub height-begins : (rs : List ℕ) (l k : ℕ) (z : ℤ) → Fair rs → index z < product rs → 1 ≤ l → l ≤ k → take (2 + l) (heightDigits rs k z) ≡ heightDigits rs l z
+height-begins rs zero k z e h a b = absurd (omega arith)
+height-begins rs (suc l) zero z e h a b = absurd (omega arith)
+height-begins [] (suc l) (suc k) z e h a b = clash (let t = e .test in cc)
+height-begins (r ∷ rs) (suc l) (suc k) z e h a b =
+    let X = rise (product (r ∷ rs)) z in
+    let s : 2 + suc l ≡ suc (suc (suc l)) = omega arith in
+    rw (s, height-straight r rs k z e h, height-straight r rs l z e h, take-take l k (direct rs X) (omega arith)) refl
+
+-- level k + 1 adds its digit
+height-suc : (rs : List ℕ) (k : ℕ) (z : ℤ) → Fair rs → index z < product rs → 1 ≤ k → k < 10
+    → heightDigits rs (suc k) z ≡ heightDigits rs k z ++ (digitAt rs k (rise (product rs) z) ∷ [])
+unfolding digitAt thicknessAt
+height-suc rs zero z e h a b = absurd (omega arith)
+height-suc [] (suc k) z e h a b = clash (let t = e .test in cc)
+height-suc (r ∷ rs) (suc k) z e h a b =
+    let X = rise (product (r ∷ rs)) z in
+    let l : k < length rs = omega (arith, ten (r ∷ rs) e) in
+    let t : take (suc k) (direct rs X) ≡ take k (direct rs X) ++ ((X / product (drop (suc k) rs) % getD rs k 0) ∷ []) =
+    take-suc (direct rs X) k 0 (omega (arith, length-direct rs X)) ∙ ap (λ (x : ℕ). take k (direct rs X) ++ (x ∷ [])) (at-direct rs X k l) in
+    rw (height-straight r rs (suc k) z e h, height-straight r rs k z e h, t, add-one (suc k)) refl
+
+pub height-more : (rs : List ℕ) (k : ℕ) (z : ℤ) → Fair rs → index z < product rs → 1 ≤ k → k < 10
+    → heightDigits rs (k + 1) z ≡ heightDigits rs k z ++ (digitAt rs k (rise (product rs) z) ∷ [])
+height-more rs k z e h a b = rw (add-one k) (height-suc rs k z e h a b)

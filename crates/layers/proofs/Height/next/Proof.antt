@@ -1,0 +1,90 @@
+-- `layers::Height::next` meets its contract. Assumes nothing.
+use Prim.Native.Nat.{_+_}
+use native.Mathlib.Omega.{arith}
+use Rattle.layers.proofs.Reading.{marked, unmarked, upto-ended, upto-bad, upto-refused, upto-fits, upto-read}
+use borrow.Author.Needs.{needs}
+use Rattle.layers.proofs.Height.next.Statement.{statement}
+use Rattle.layers.proofs.Height.next.Tie as tie
+
+returns : tie.Need-returns
+returns c =
+    let s = c .before .before in
+    upto-ended (s .args .t2) (s .args .level) (s .args .k) (s .args .digits .now) (s .pre .0) (s .pre .1) (s .pre .2) (s .pre .3) (c .if1 .taken) (s .pre .4)
+
+returns-2 : tie.Need-returns-2
+returns-2 c =
+    let s = c .before .before .before .before in
+    upto-bad (s .args .t2) (s .args .level) (s .args .k) (s .args .digits .now) (s .pre .0) (s .pre .1) (s .pre .2) (s .pre .3) (unmarked (s .args .self .good) (c .if2 .taken)) (s .pre .4)
+
+add-digit : tie.Need-add-digit
+add-digit c = search needs
+
+shared-slice-read-digit : tie.Need-shared-slice-read-digit
+shared-slice-read-digit c = search needs
+
+digit-requires : tie.Need-digit-requires
+digit-requires c κs = search needs
+
+mul-if3 : tie.Need-mul-if3
+mul-if3 c = search needs
+
+array-read-if3 : tie.Need-array-read-if3
+array-read-if3 c = search needs
+
+add-refused : tie.Need-add-refused
+add-refused c = search needs
+
+refused-requires : tie.Need-refused-requires
+refused-requires c κs = search needs
+
+returns-3 : tie.Need-returns-3
+returns-3 c =
+    let s = c .before .before .before .before .before .before .before .before in
+    upto-refused (s .args .t2) (s .args .level) (s .args .k) (s .args .digits .now) (s .pre .0) (s .pre .1) (s .pre .2) (s .pre .3) (c .before .before .before .before .before .before .if1 .left) (marked (s .args .self .good) (c .before .before .before .before .if2 .left)) (s .pre .4) (c .before .before .digit .ensures) (c .before .if3 .taken) (c .refused .ensures)
+
+add-thickness : tie.Need-add-thickness
+add-thickness c = search needs
+
+thickness-requires : tie.Need-thickness-requires
+thickness-requires c κs = search needs
+
+add-t9 : tie.Need-add-t9
+add-t9 c = search needs
+
+mul-t15 : tie.Need-mul-t15
+mul-t15 c =
+    let s = c .before .before .before .before .before .before .before .before in
+    let f = upto-fits (s .args .t2) (s .args .level) (s .args .k) (s .args .digits .now) (s .pre .0) (s .pre .1) (s .pre .2) (s .pre .3) (c .before .before .before .before .before .before .if1 .left) (marked (s .args .self .good) (c .before .before .before .before .if2 .left)) (s .pre .4) _ (c .thickness .ensures) _ (c .before .before .digit .ensures) (c .before .if3 .left) in
+    omega arith
+
+add-t18 : tie.Need-add-t18
+add-t18 c =
+    let s = c .before .before .before .before .before .before .before .before .before in
+    let f = upto-fits (s .args .t2) (s .args .level) (s .args .k) (s .args .digits .now) (s .pre .0) (s .pre .1) (s .pre .2) (s .pre .3) (c .before .before .before .before .before .before .before .if1 .left) (marked (s .args .self .good) (c .before .before .before .before .before .if2 .left)) (s .pre .4) _ (c .before .thickness .ensures) _ (c .before .before .before .digit .ensures) (c .before .before .if3 .left) in
+    omega arith
+
+returns-4 : tie.Need-returns-4
+returns-4 c =
+    let s = c .before .before .before .before .before .before .before .before .before in
+    upto-read (s .args .t2) (s .args .level) (s .args .k) (s .args .digits .now) (s .pre .0) (s .pre .1) (s .pre .2) (s .pre .3) (c .before .before .before .before .before .before .before .if1 .left) (marked (s .args .self .good) (c .before .before .before .before .before .if2 .left)) (s .pre .4) _ (c .before .thickness .ensures) _ (c .before .before .before .digit .ensures) (c .before .before .if3 .left) (s .args .k + 3)
+
+pub next-spec : {M : Type 1} → statement M
+next-spec =
+    tie.close
+    (tie.spec
+    returns
+    returns-2
+    add-digit
+    shared-slice-read-digit
+    digit-requires
+    mul-if3
+    array-read-if3
+    add-refused
+    refused-requires
+    returns-3
+    add-thickness
+    thickness-requires
+    add-t9
+    mul-t15
+    add-t18
+    returns-4)

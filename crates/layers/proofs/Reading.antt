@@ -1,0 +1,230 @@
+-- What reading each level makes of the layers read so far.
+-- Assumes nothing.
+use mathlib.Core.Path.{_≡_, refl, sym, _∙_, ap, subst}
+use mathlib.Core.Bool.{Bool, true, false, not, cond, _&&_}
+use mathlib.Core.List.{List, [], _∷_, map}
+use Prim.Native.Nat.{ℕ, zero, suc, _+_, _-_, _*_, _/_, _≤_, _<_}
+use native.Mathlib.Omega.{arith}
+use native.Mathlib.Nat.{mul-div-right, add-assoc}
+use native.Mathlib.Numerals.{add-one}
+use lib.Dec.{ltb, leb, eqb}
+use lib.ListN.{length, getD, take, drop, length-take, length-map, drop-of-length-le, List·getD-map}
+use lib.Seq.{drop-cons, getD-take}
+use borrow.Author.Tests.{leb-true, lt-ltb, le-ltb, le-leb, lt-leb}
+use Rattle.grid.specs.Characters.{digitOf}
+use Rattle.grid.specs.Tree.{Read, ok, bad, guard, shift, next, follow}
+use Rattle.grid.specs.Layers.{product, Stack, all, part, allChild}
+use Rattle.grid.proofs.Cut.{clash, and-true, cut-end}
+use Rattle.layers.specs.declared.Height.{Height}
+use Rattle.layers.specs.Heights.{later, heightLevels, heightRead, heightOf}
+use Rattle.layers.specs.Steps.{Fair, thicknessAt, Readable, BadAt, First, restOf, Upto}
+use Rattle.layers.proofs.Radices.{ten, product-fits, first-radix, later-radix, thick-top, thick-step}
+
+-- a byte's digit is at most 32
+pub digit-most : (b : ℕ) → digitOf b ≤ 32
+unfolding digitOf
+digit-most b = go (leb 48 b && leb b 57) refl
+  where
+    letters : (q : Bool) → (leb 65 b && leb b 86) ≡ q → cond q (b - 55) 32 ≤ 32
+    letters true e = let h : b ≤ 86 = leb-true b 86 (and-true (leb 65 b) (leb b 86) e .1) in omega arith
+    letters false e = omega arith
+
+    go : (q : Bool) → (leb 48 b && leb b 57) ≡ q → cond q (b - 48) (cond (leb 65 b && leb b 86) (b - 55) 32) ≤ 32
+    go true e = let h : b ≤ 57 = leb-true b 57 (and-true (leb 48 b) (leb b 57) e .1) in omega arith
+    go false e = letters (leb 65 b && leb b 86) refl
+
+bad-read : {p : ℕ} {h : Height} → BadAt p h → heightOf h ≡ bad p
+bad-read b = rw (b .none, b .place) refl
+
+bad-never : {A : Type 0} {p : ℕ} {h : Height} → BadAt p h → h .good ≡ true → A
+bad-never b g = clash (let n = b .none in cc)
+
+-- what the test of a height's mark says
+pub marked : (b : Bool) → not b ≡ false → b ≡ true
+marked true e = refl
+marked false e = clash (cc)
+
+pub unmarked : (b : Bool) → not b ≡ true → b ≡ false
+unmarked true e = clash (cc)
+unmarked false e = refl
+
+-- ---- level 1
+
+module _ (rs : List ℕ) (s a b : ℕ) (e : Fair rs) where
+  abbrev r : ℕ
+  r = getD rs 0 0
+
+  abbrev read : Read Stack
+  read = allChild (product rs) r (s ∷ a ∷ b ∷ [])
+
+  stops : {p : ℕ} {h : Height} → BadAt p h → read ≡ bad p → First rs s a b h
+  stops x f = record { read = bad-read x ∙ sym f; thick = bad-never x; inside = bad-never x }
+
+  pub first-sign : {h : Height} → 2 ≤ s → BadAt 0 h → First rs s a b h
+  first-sign l x = stops x (rw (le-ltb s 2 l) refl)
+
+  module _ (p : s < 2) where
+    pub first-tens : {h : Height} → r ≤ 10 * a → BadAt 1 h → First rs s a b h
+    first-tens l x = stops x (rw (lt-ltb s 2 p, le-ltb (10 * a) r l) refl)
+
+    module _ (q : 10 * a < r) where
+      pub first-ones : {h : Height} → 9 < b → BadAt 2 h → First rs s a b h
+      first-ones l x = stops x (rw (lt-ltb s 2 p, lt-ltb (10 * a) r q, lt-leb b 9 l) refl)
+
+      pub first-most : {h : Height} → b ≤ 9 → r ≤ 10 * a + b → BadAt 2 h → First rs s a b h
+      first-most k l x = stops x (rw (lt-ltb s 2 p, lt-ltb (10 * a) r q, le-leb b 9 k, le-ltb (10 * a + b) r l) refl)
+
+  first-end : 10 * a + b < r → (10 * a + b) * thicknessAt rs 1 + thicknessAt rs 1 ≤ product rs
+  first-end l = cut-end (10 * a + b) r (thicknessAt rs 1) (product rs) l (thick-step rs 0 e (omega arith) ∙ thick-top rs)
+
+  first-part : product rs / r ≡ thicknessAt rs 1
+  first-part =
+      ap (λ (n : ℕ). n / r) (sym (thick-step rs 0 e (omega arith) ∙ thick-top rs))
+      ∙ mul-div-right (thicknessAt rs 1) {m = r} (first-radix rs e .more)
+
+  pub first-fits : (t : ℕ) → t ≡ thicknessAt rs 1 → 10 * a + b < r → (10 * a + b) * t + t ≤ 2147483648
+  first-fits t i l = let z = first-end l in rw i (omega (arith, product-fits rs e))
+
+  pub first-read : (t p : ℕ) → t ≡ thicknessAt rs 1 → s < 2 → 10 * a < r → b ≤ 9 → 10 * a + b < r
+      → First rs s a b (record { good = true; place = p; above = eqb s 0; low = (10 * a + b) * t; thick = t })
+  first-read t p i j k l m =
+      record {
+        read = rw (i, lt-ltb s 2 j, lt-ltb (10 * a) r k, le-leb b 9 l, lt-ltb (10 * a + b) r m, first-part) refl;
+        thick = λ g. i;
+        inside = λ g. rw i (first-end m);
+      }
+
+-- the first three characters
+three : (w : List ℕ) → 3 ≤ length w → take 3 (map digitOf w) ≡ digitOf (getD w 0 0) ∷ digitOf (getD w 1 0) ∷ digitOf (getD w 2 0) ∷ []
+three [] h = absurd (omega arith)
+three (x ∷ []) h = absurd (omega arith)
+three (x ∷ y ∷ []) h = absurd (omega arith)
+three (x ∷ y ∷ z ∷ w) h = refl
+
+pub started : (rs : List ℕ) (level : ℕ) (w : List ℕ) {s a b : ℕ} {h : Height} → Fair rs → Readable level (length w)
+    → s ≡ digitOf (getD w 0 0) → a ≡ digitOf (getD w 1 0) → b ≡ digitOf (getD w 2 0) → First rs s a b h → Upto rs level 1 w h
+unfolding heightRead follow
+started rs zero w e d i j k f = absurd (omega (arith, d .some-level))
+started [] (suc l) w e d i j k f = clash (let t = e .test in cc)
+started (r ∷ rs) (suc l) w {h = h} e d i j k f =
+    let m : 3 ≤ length w = omega (arith, d .exactly) in
+    let c : allChild (product (r ∷ rs)) r (take 3 (map digitOf w)) ≡ heightOf h = rw (three w m, ← i, ← j, ← k) (sym (f .read)) in
+    record {
+      whole = ap (λ x. next 3 x (restOf (r ∷ rs) (suc l) 1 w)) c;
+      thick = λ g o. f .thick g;
+      inside = f .inside;
+    }
+
+-- ---- a later level
+
+levels-ten : (rs : List ℕ) → Fair rs → length (heightLevels rs) ≡ 10
+levels-ten [] e = clash (let t = e .test in cc)
+levels-ten (r ∷ rs) e = omega (arith, length-map rs later, ten (r ∷ rs) e)
+
+level-at : (rs : List ℕ) (k : ℕ) → 1 ≤ k → Fair rs → getD (heightLevels rs) k (later 0) ≡ later (getD rs k 0)
+level-at rs zero l e = absurd (omega arith)
+level-at [] (suc k) l e = clash (let t = e .test in cc)
+level-at (r ∷ rs) (suc k) l e = List·getD-map later rs k 0
+
+shift-shift : {A : Type 0} (i j : ℕ) (r : Read A) → shift i (shift j r) ≡ shift (i + j) r
+shift-shift i j (ok a) = refl
+shift-shift i j (bad p) = ap bad (sym (add-assoc i j p))
+
+module _ (rs : List ℕ) (level k : ℕ) (w : List ℕ) (e : Fair rs) (from : 1 ≤ k) (to : k < 10) (d : Readable level (length w)) where
+  -- the level's radix and digit
+  abbrev q : ℕ
+  q = getD rs k 0
+
+  abbrev v : ℕ
+  v = digitOf (getD w (k + 2) 0)
+
+  -- what is left after k levels, where the code has level k + 1: its digit, and what is left after it
+  rest-step : k < level → (a : Bool) (low n : ℕ)
+      → restOf rs level k w (part a low n) ≡ next 1 (guard 0 (ltb v q) (ok (part a (low + v * (n / q)) (n / q)))) (restOf rs level (k + 1) w)
+  unfolding follow
+  rest-step h a low n =
+      let L = take level (heightLevels rs) in
+      let ln : length L ≡ level = length-take level (heightLevels rs) ∙ omega (arith, levels-ten rs e, d .ten-levels) in
+      let g : getD L k (later 0) ≡ later q = getD-take level (heightLevels rs) k (later 0) h ∙ level-at rs k from e in
+      let c : drop k L ≡ later q ∷ drop (suc k) L = drop-cons L k (later 0) (omega arith) ∙ ap (λ t. t ∷ drop (suc k) L) g in
+      let ds = map digitOf w in
+      let ld : length ds ≡ 2 + level = length-map w digitOf ∙ d .exactly in
+      let f : drop (k + 2) ds ≡ getD ds (k + 2) (digitOf 0) ∷ drop (suc (k + 2)) ds = drop-cons ds (k + 2) (digitOf 0) (omega arith) in
+      let u : suc (k + 2) ≡ k + 1 + 2 = omega arith in
+      rw (c, f, List·getD-map digitOf w (k + 2) 0, u, add-one k) refl
+
+  -- the code ends before level k + 1
+  rest-ended : (j : ℕ) → level ≤ j → (n : Stack) → restOf rs level j w n ≡ ok n
+  unfolding follow
+  rest-ended j m n =
+      let L = take level (heightLevels rs) in
+      let ln : length L ≡ level = length-take level (heightLevels rs) ∙ omega (arith, levels-ten rs e, d .ten-levels) in
+      rw (drop-of-length-le L {i = j} (omega arith)) refl
+
+  pub upto-ended : {h : Height} → level ≤ k → Upto rs level k w h → Upto rs level (k + 1) w h
+  upto-ended {h} l u =
+      record { whole = u .whole ∙ same (heightOf h); thick = λ g m. absurd (omega arith); inside = u .inside }
+    where
+      same : (x : Read Stack) → next (k + 2) x (restOf rs level k w) ≡ next (k + 1 + 2) x (restOf rs level (k + 1) w)
+      same (ok n) = rw (rest-ended k l n, rest-ended (k + 1) (omega arith) n) refl
+      same (bad p) = refl
+
+  -- a character before it is not allowed
+  pub upto-bad : {h : Height} → h .good ≡ false → Upto rs level k w h → Upto rs level (k + 1) w h
+  upto-bad {h} b u =
+      let x : BadAt (h .place) h = record { none = b; place = refl } in
+      record {
+        whole = u .whole ∙ ap (λ y. next (k + 2) y (restOf rs level k w)) (bad-read x)
+            ∙ sym (ap (λ y. next (k + 1 + 2) y (restOf rs level (k + 1) w)) (bad-read x));
+        thick = λ g m. bad-never x g;
+        inside = bad-never x;
+      }
+
+  -- where all before it are allowed
+  module _ {h : Height} (l : k < level) (good : h .good ≡ true) (u : Upto rs level k w h) where
+    before : heightRead rs level (map digitOf w) ≡ shift (k + 2) (next 1 (guard 0 (ltb v q) (ok (part (h .above) (h .low + v * (h .thick / q)) (h .thick / q)))) (restOf rs level (k + 1) w))
+    before =
+        u .whole
+        ∙ ap (λ y. next (k + 2) y (restOf rs level k w)) (let z : heightOf h ≡ ok (part (h .above) (h .low) (h .thick)) = rw good refl in z)
+        ∙ ap (shift (k + 2)) (rest-step l (h .above) (h .low) (h .thick))
+
+    pub upto-refused : {x : ℕ} {g : Height} → x ≡ v → q ≤ x → BadAt (k + 2) g → Upto rs level (k + 1) w g
+    upto-refused i m b =
+        let z : k + 2 + 0 ≡ k + 2 = omega arith in
+        record {
+          whole = before ∙ rw (le-ltb v q (subst (λ (y : ℕ). q ≤ y) i m), bad-read b, z) refl;
+          thick = λ o j. bad-never b o;
+          inside = bad-never b;
+        }
+
+    module _ (t : ℕ) (is : t ≡ thicknessAt rs (k + 1)) where
+      cell : q * t ≡ h .thick
+      cell = ap (λ (y : ℕ). q * y) is ∙ thick-step rs k e to ∙ sym (u .thick good (omega arith))
+
+      child : h .thick / q ≡ t
+      child = ap (λ (y : ℕ). y / q) (sym cell) ∙ mul-div-right t {m = q} (later-radix rs k e from to .more)
+
+      module _ (x : ℕ) (i : x ≡ v) (m : x < q) where
+        end : h .low + x * t + t ≤ product rs
+        end = let c = cut-end x q t (h .thick) m cell in omega (arith, u .inside good)
+
+        pub upto-fits : h .low + x * t + t ≤ 2147483648
+        upto-fits = let z = end in omega (arith, product-fits rs e)
+
+        pub upto-read : (p : ℕ) → Upto rs level (k + 1) w (record { good = true; place = p; above = h .above; low = h .low + x * t; thick = t })
+        upto-read p =
+            let s : k + 2 + 1 ≡ k + 1 + 2 = omega arith in
+            let o = restOf rs level (k + 1) w (part (h .above) (h .low + x * t) t) in
+            record {
+              whole = before ∙ rw (lt-ltb v q (subst (λ (y : ℕ). y < q) i m), child, ← i) (shift-shift (k + 2) 1 o ∙ ap (λ (y : ℕ). shift y o) s);
+              thick = λ g j. is;
+              inside = λ g. end;
+            }
+
+-- all of the code is read
+pub upto-all : (rs : List ℕ) (level : ℕ) (w : List ℕ) {h : Height} → Fair rs → Readable level (length w) → Upto rs level 10 w h → heightOf h ≡ heightRead rs level (map digitOf w)
+upto-all rs level w {h} e d u = sym (u .whole ∙ go (heightOf h))
+  where
+    go : (x : Read Stack) → next 12 x (restOf rs level 10 w) ≡ x
+    go (ok n) = rw (rest-ended rs level 1 w e (omega arith) (omega arith) d 10 (d .ten-levels) n) refl
+    go (bad p) = refl

@@ -1,0 +1,114 @@
+-- A layer as a signed number: its side and rise, and the way back.
+-- Assumes nothing.
+use mathlib.Core.Path.{_≡_, refl, sym, _∙_, ap, subst}
+use mathlib.Core.Bool.{Bool, true, false, cond}
+use mathlib.Core.List.{List}
+use Prim.Native.Nat.{ℕ, _-_, _≤_, _<_}
+use native.Mathlib.Omega.{arith}
+use lib.IntN.{ℤ, pos, negsuc, _-ℤ_}
+use lib.Dec.{ltb}
+use lib.Signed.{ltZ}
+use mir.Syntax.{Width, w32}
+use mir.Val.{SFits, toZ, ofZ}
+use mir.Facts.{toZ-ofZ, toZ-pos}
+use native.Mathlib.Nat.{not-suc-le-zero}
+use borrow.Author.Tests.{ltb-true, lt-ltb, le-ltb}
+use Rattle.grid.specs.Units.{side, index}
+use Rattle.grid.specs.Layers.{product, rise, part, floorOf}
+use Rattle.grid.proofs.Cut.{clash}
+use Rattle.layers.specs.declared.AskedLayer.the-variants.{At, Outside}
+use Rattle.layers.specs.Heights.{layerOf, askedOf}
+use Rattle.layers.specs.Steps.{Fair, thicknessAt}
+use Rattle.layers.proofs.Radices.{product-fits, thick-top}
+use Rattle.layers.proofs.Signed.{mirrored-fits, mirrored-back}
+
+-- ---- the layer on a side with a rise
+
+module _ (top : ℕ) where
+  pub layer-side : (a : Bool) (n : ℕ) → side (layerOf top a n) ≡ a
+  layer-side true n = refl
+  layer-side false n = refl
+
+  pub layer-rise : (a : Bool) (n : ℕ) → n < top → rise top (layerOf top a n) ≡ n
+  layer-rise true n h = refl
+  layer-rise false n h = omega arith
+
+  pub layer-in : (a : Bool) (n : ℕ) → n < top → index (layerOf top a n) < top
+  layer-in true n h = h
+  layer-in false n h = omega arith
+
+  -- and a layer's side and rise are its own
+  pub rise-below : (z : ℤ) → index z < top → rise top z < top
+  rise-below (pos n) h = h
+  rise-below (negsuc n) h = omega arith
+
+  pub layer-back : (z : ℤ) → index z < top → layerOf top (side z) (rise top z) ≡ z
+  layer-back (pos n) h = refl
+  layer-back (negsuc n) h = ap negsuc (omega arith)
+
+-- ---- a layer that is asked for
+
+-- outside, and on either side
+asked-out : (rs : List ℕ) (z : ℤ) → product rs ≤ index z → Outside ≡ askedOf rs z
+asked-out rs z h = rw (le-ltb (index z) (product rs) h) refl
+
+asked-down : (rs : List ℕ) (z : ℤ) → index z < product rs → ltZ z (pos 0) ≡ true → At false (product rs - 1 - index z) ≡ askedOf rs z
+asked-down rs (pos n) h s = absurd (not-suc-le-zero (ltb-true n 0 s))
+asked-down rs (negsuc n) h s = rw (lt-ltb n (product rs) h) refl
+
+asked-up : (rs : List ℕ) (z : ℤ) → index z < product rs → ltZ z (pos 0) ≡ false → At true (index z) ≡ askedOf rs z
+asked-up rs (pos n) h s = rw (lt-ltb n (product rs) h) refl
+asked-up rs (negsuc n) h s = clash (cc)
+
+-- what is asked for is in its range
+pub asked-at : (rs : List ℕ) (z : ℤ) {a : Bool} {n : ℕ} → askedOf rs z ≡ At a n → (index z < product rs) × (n < product rs) × (layerOf (product rs) a n ≡ z)
+asked-at rs z {a} {n} e = go (ltb (index z) (product rs)) refl e
+  where
+    go : (q : Bool) → ltb (index z) (product rs) ≡ q → cond q (At (side z) (rise (product rs) z)) Outside ≡ At a n → (index z < product rs) × (n < product rs) × (layerOf (product rs) a n ≡ z)
+    go true h f =
+        let i : index z < product rs = ltb-true _ _ h in
+        let b : side z ≡ a = cc in
+        let c : rise (product rs) z ≡ n = cc in
+        let s : layerOf (product rs) (side z) (rise (product rs) z) ≡ layerOf (product rs) a n =
+        ap (λ (x : Bool). layerOf (product rs) x (rise (product rs) z)) b ∙ ap (λ (k : ℕ). layerOf (product rs) a k) c in
+        (i, subst (λ (k : ℕ). k < product rs) c (rise-below (product rs) z i), sym s ∙ layer-back (product rs) z i)
+    go false h f = clash (cc)
+
+-- as the code finds it: a layer of a width, the top t and the outward index n
+module _ (rs : List ℕ) {w : Width} {z : ℤ} (f : SFits w z) {t n : ℕ} (is : t ≡ thicknessAt rs 0) (out : n ≡ index (toZ w (ofZ w z))) where
+  outward : n ≡ index z
+  outward = out ∙ ap index (toZ-ofZ f)
+
+  top : t ≡ product rs
+  top = is ∙ thick-top rs
+
+  pub asked-outside : t ≤ n → Outside ≡ askedOf rs z
+  asked-outside h = asked-out rs z (omega (arith, top, outward))
+
+  pub asked-below : n < t → ltZ (toZ w (ofZ w z)) (pos 0) ≡ true → At false (t - 1 - n) ≡ askedOf rs z
+  asked-below h s = rw (top, outward) (asked-down rs z (omega (arith, top, outward)) (rw (toZ-ofZ f) at s))
+
+  pub asked-above : n < t → ltZ (toZ w (ofZ w z)) (pos 0) ≡ false → At true n ≡ askedOf rs z
+  asked-above h s = rw outward (asked-up rs z (omega (arith, top, outward)) (rw (toZ-ofZ f) at s))
+
+-- ---- the lower face
+
+module _ (rs : List ℕ) (e : Fair rs) (low : ℕ) (h : low < product rs) where
+  pub low-fits : low < 2147483648
+  low-fits = omega (arith, product-fits rs e)
+
+  pub floor-up : (a : Bool) → a ≡ true → (n : ℕ) → toZ w32 low ≡ floorOf (product rs) (part a low n)
+  floor-up a s n = rw s (toZ-pos w32 low-fits)
+
+  module _ (t : ℕ) (is : t ≡ thicknessAt rs 0) where
+    pub low-below : low < t
+    low-below = rw (is, thick-top rs) h
+
+    pub depth-fits : t - 1 - low < 2147483648
+    depth-fits = rw (is, thick-top rs) (omega (arith, product-fits rs e))
+
+    pub down-fits : SFits w32 (negsuc 0 -ℤ toZ w32 (t - 1 - low))
+    down-fits = mirrored-fits w32 depth-fits
+
+    pub floor-down : (a : Bool) → a ≡ false → (n : ℕ) → toZ w32 (ofZ w32 (negsuc 0 -ℤ toZ w32 (t - 1 - low))) ≡ floorOf (product rs) (part a low n)
+    floor-down a s n = rw s (mirrored-back w32 depth-fits ∙ ap (λ (x : ℕ). negsuc (x - 1 - low)) (is ∙ thick-top rs))

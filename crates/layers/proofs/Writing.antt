@@ -1,0 +1,123 @@
+-- What the stores of each level leave in the line, and what they come to.
+-- Assumes nothing.
+use mathlib.Core.Path.{_≡_, refl, _∙_, ap}
+use mathlib.Core.Bool.{Bool, true, false, cond}
+use mathlib.Core.List.{List, [], _∷_, _++_, map, map-append}
+use Prim.Native.Nat.{ℕ, suc, _+_, _/_, _%_, _≤_, _<_, min}
+use native.Mathlib.Omega.{arith}
+use native.Mathlib.Nat.{add-zero, add-suc, suc-add, div-lt-iff-lt-mul, mod-lt}
+use lib.Dec.{ltb}
+use lib.IntN.{ℤ}
+use lib.ListN.{length, getD, set, length-map}
+use lib.Seq.{sets, length-sets}
+use borrow.Author.Tests.{lt-ltb, le-ltb, ltb-true, ltb-false}
+use Rattle.grid.specs.Characters.{charOf}
+use Rattle.grid.specs.Layers.{product, sign}
+use Rattle.grid.proofs.Cut.{clash}
+use Rattle.layers.specs.Heights.{heightDigits, layerOf}
+use Rattle.layers.specs.Steps.{Fair, thicknessAt, digitAt, charsAt, Writable}
+use Rattle.layers.proofs.Radices.{first-radix, later-radix, thick-some, thick-step, thick-top}
+use Rattle.layers.proofs.Sides.{layer-side, layer-rise, layer-in}
+use Rattle.layers.proofs.Digits.{height-straight, height-length, height-more}
+
+-- ---- level 1
+
+-- the first digit of a rise
+pub first-below : (rs : List ℕ) (n t : ℕ) → Fair rs → n < product rs → t ≡ thicknessAt rs 1 → n / t < 100
+first-below rs n t e h s =
+    let p = thick-some rs 1 e in
+    let m : n / thicknessAt rs 1 < getD rs 0 0 = div-lt-iff-lt-mul p .1 (rw (thick-step rs 0 e (omega arith), thick-top rs) h) in
+    let f : getD rs 0 0 ≤ 100 = first-radix rs e .few in
+    rw s (omega arith)
+
+pub first-stored : (rs : List ℕ) (a : Bool) (n t : ℕ) (l : List ℕ) {x y z : ℕ} → Fair rs → n < product rs → t ≡ thicknessAt rs 1
+    → x ≡ charOf (sign a) → y ≡ charOf (n / t / 10) → z ≡ charOf (n / t % 10)
+    → set (set (set l 0 x) 1 y) 2 z ≡ sets l 0 (map charOf (heightDigits rs 1 (layerOf (product rs) a n)))
+unfolding thicknessAt
+first-stored [] a n t l e h s p q r = clash (let t = e .test in cc)
+first-stored (k ∷ rs) a n t l e h s p q r =
+    let top = product (k ∷ rs) in
+    rw (p, q, r, s, height-straight k rs 0 (layerOf top a n) e (layer-in top a n h), layer-side top a n, layer-rise top a n h) refl
+
+-- ---- a later level
+
+-- its digit is a code character's
+pub digit-below : (rs : List ℕ) (k n : ℕ) → Fair rs → 1 ≤ k → k < 10 → n % getD rs k 0 < 32
+digit-below rs k n e a b =
+    let f = later-radix rs k e a b in
+    let m : n % getD rs k 0 < getD rs k 0 = mod-lt n (f .more) in
+    omega (arith, f .few)
+
+pub none-stored : (rs : List ℕ) (level k n : ℕ) (l : List ℕ) → level ≤ k → l ≡ sets l (k + 2) (charsAt rs level k n)
+unfolding charsAt
+none-stored rs level k n l h = rw (le-ltb k level h) refl
+
+pub one-stored : (rs : List ℕ) (level k n t : ℕ) (l : List ℕ) {x : ℕ} → k < level → t ≡ thicknessAt rs (k + 1)
+    → x ≡ charOf (n / t % getD rs k 0) → set l (k + 2) x ≡ sets l (k + 2) (charsAt rs level k n)
+unfolding charsAt digitAt
+one-stored rs level k n t l h s p = rw (p, s, lt-ltb k level h) refl
+
+-- ---- a line in which the height characters are laid down, level by level
+
+sets-append : (l : List ℕ) (i : ℕ) (xs ys : List ℕ) → sets l i (xs ++ ys) ≡ sets (sets l i xs) (i + length xs) ys
+sets-append l i [] ys = rw add-zero
+sets-append l i (x ∷ xs) ys = rw (add-suc, ← suc-add) (sets-append (set l i x) (suc i) xs ys)
+
+module _ (rs : List ℕ) (a : Bool) (n : ℕ) (e : Fair rs) (h : n < product rs) (level : ℕ) (l : List ℕ) where
+  abbrev z : ℤ
+  z = layerOf (product rs) a n
+
+  added : (k : ℕ) → 1 ≤ k → k < 10 → (q : Bool) → ltb k level ≡ q
+      → sets (sets l 0 (map charOf (heightDigits rs (min level k) z))) (k + 2) (cond q (charOf (digitAt rs k n) ∷ []) []) ≡ sets l 0 (map charOf (heightDigits rs (min level (k + 1)) z))
+  added k b c true f =
+      let g : k < level = ltb-true _ _ f in
+      let u : min level k ≡ k = omega arith in
+      let v : min level (k + 1) ≡ k + 1 = omega arith in
+      let i = layer-in (product rs) a n h in
+      let w : 0 + length (map charOf (heightDigits rs k z)) ≡ k + 2 = omega (arith, length-map (heightDigits rs k z) charOf, height-length rs k z e i b (omega arith)) in
+      rw (u, v, height-more rs k z e i b c, layer-rise (product rs) a n h, map-append, sets-append, w) refl
+  added k b c false f =
+      let g : level ≤ k = ltb-false _ _ f in
+      let u : min level k ≡ min level (k + 1) = omega arith in
+      ap (λ (i : ℕ). sets l 0 (map charOf (heightDigits rs i z))) u
+
+-- the line l is l₀ with the height characters of a code of a level laid down as far as level k
+pub record LaidTo (k level : ℕ) (rs : List ℕ) (a : Bool) (n : ℕ) (l₀ l : List ℕ) : Type 0 where
+  pub radices-fair : Fair rs
+  pub writable : Writable rs level n l
+  pub laid : l ≡ sets l₀ 0 (map charOf (heightDigits rs (min level k) (layerOf (product rs) a n)))
+
+-- stores keep the room
+still : (rs : List ℕ) (level n : ℕ) (l m : List ℕ) (i : ℕ) (w : List ℕ) → Writable rs level n l → m ≡ sets l i w → Writable rs level n m
+still rs level n l m i w h e =
+    let s : length m ≡ length l = ap length e ∙ length-sets l i w in
+    record { some-level = h .some-level; ten-levels = h .ten-levels; rise-in = h .rise-in; room = omega (arith, h .room) }
+
+module _ {level n : ℕ} {rs : List ℕ} {a : Bool} {l₀ : List ℕ} where
+  pub laid-first : {l : List ℕ} → Fair rs → Writable rs level n l₀ → l ≡ sets l₀ 0 (map charOf (heightDigits rs 1 (layerOf (product rs) a n))) → LaidTo 1 level rs a n l₀ l
+  laid-first e h f =
+      let u : 1 ≡ min level 1 = omega (arith, h .some-level) in
+      record {
+        radices-fair = e;
+        writable = still rs level n l₀ _ 0 (map charOf (heightDigits rs 1 (layerOf (product rs) a n))) h f;
+        laid = f ∙ ap (λ (i : ℕ). sets l₀ 0 (map charOf (heightDigits rs i (layerOf (product rs) a n)))) u;
+      }
+
+  pub laid-more : (k : ℕ) {l m : List ℕ} → 1 ≤ k → k < 10 → LaidTo k level rs a n l₀ l → m ≡ sets l (k + 2) (charsAt rs level k n) → LaidTo (k + 1) level rs a n l₀ m
+  unfolding charsAt
+  laid-more k {l} {m} b c h f =
+      record {
+        radices-fair = h .radices-fair;
+        writable = still rs level n l m (k + 2) (charsAt rs level k n) (h .writable) f;
+        laid = f
+            ∙ ap (λ x. sets x (k + 2) (charsAt rs level k n)) (h .laid)
+            ∙ added rs a n (h .radices-fair) (h .writable .rise-in) level l₀ k b c (ltb k level) refl;
+      }
+
+  pub laid-all : {l : List ℕ} → LaidTo 10 level rs a n l₀ l → l ≡ sets l₀ 0 (map charOf (heightDigits rs level (layerOf (product rs) a n)))
+  laid-all h =
+      let u : min level 10 ≡ level = omega (arith, h .writable .ten-levels) in
+      h .laid ∙ ap (λ (i : ℕ). sets l₀ 0 (map charOf (heightDigits rs i (layerOf (product rs) a n)))) u
+
+  pub laid-length : {k : ℕ} {l : List ℕ} → LaidTo k level rs a n l₀ l → length l ≡ length l₀
+  laid-length {k} h = ap length (h .laid) ∙ length-sets l₀ 0 (map charOf (heightDigits rs (min level k) (layerOf (product rs) a n)))

@@ -1,0 +1,15 @@
+-- `layers::sign_of` meets its contract. Assumes nothing.
+use Rattle.grid.specs.Characters.{charOf}
+use Rattle.layers.proofs.sign_of.Statement.{statement}
+use Rattle.layers.proofs.sign_of.Tie as tie
+
+returns : tie.Need-returns
+unfolding charOf
+returns c = rw (c .if1 .taken)
+
+returns-2 : tie.Need-returns-2
+unfolding charOf
+returns-2 c = rw (c .if1 .left)
+
+pub sign-of-spec : {M : Type 1} → statement M
+sign-of-spec = tie.close (tie.spec returns returns-2)

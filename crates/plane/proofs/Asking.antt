@@ -1,0 +1,86 @@
+-- What a position writer is asked for: refusals 1, 2 and 3 in that order. Assumes nothing.
+use mathlib.Core.Path.{_≡_, refl, sym, _∙_, ap, subst}
+use mathlib.Core.Bool.{Bool, true, false, cond}
+use Prim.Native.Nat.{ℕ, _≤_, _<_}
+use native.Mathlib.Omega.{arith}
+use lib.Dec.{leb, ltb}
+use lib.IntN.{ℤ, pos, negsuc}
+use borrow.Author.Tests.{leb-true, le-leb, lt-leb, lt-ltb, le-ltb}
+use Rattle.grid.specs.declared.Place.{Place}
+use Rattle.grid.specs.declared.Refusal.{Refusal}
+use Rattle.grid.specs.Units.{side, index, unit, Square, squareOf}
+use Rattle.grid.specs.Answers.{refusal}
+use Rattle.grid.specs.Laying.{Text, refuse, text}
+use Rattle.grid.specs.Plane.{codeOf}
+use Rattle.grid.proofs.Cut.{clash}
+use Rattle.plane.specs.Text.{levelNumber, planeText, askedText, Placed, Fitting}
+use Rattle.plane.specs.declared.Asked.{Asked}
+use Rattle.plane.specs.declared.Asked.the-variants.{At, Refused}
+
+-- ---- the level
+
+pub level-far : (z : ℤ) {n : ℕ} → n ≡ index z → 10 < n → 0 ≡ levelNumber z
+level-far (pos k) e h = rw (lt-leb k 10 (omega arith)) refl
+level-far (negsuc k) e h = refl
+
+pub level-near : (z : ℤ) {n : ℕ} {b : Bool} → n ≡ index z → b ≡ side z → n ≤ 10 → b ≡ true → n ≡ levelNumber z
+level-near (pos k) e f h t = rw (le-leb k 10 (omega arith)) e
+level-near (negsuc k) e f h t = clash (cc)
+
+pub level-below : (z : ℤ) {b : Bool} → b ≡ side z → b ≡ false → 0 ≡ levelNumber z
+level-below (pos k) f t = clash (cc)
+level-below (negsuc k) f t = refl
+
+pub level-most : (z : ℤ) → levelNumber z ≤ 10
+level-most (pos k) = go (leb k 10) refl
+  where
+    go : (q : Bool) → leb k 10 ≡ q → cond q k 0 ≤ 10
+    go true e = leb-true k 10 e
+    go false e = omega arith
+level-most (negsuc k) = omega arith
+
+-- ---- the place
+
+unit-of : (z : ℤ) → unit (side z) (index z) ≡ z
+unit-of (pos n) = refl
+unit-of (negsuc n) = refl
+
+pub square-of : (u v : ℤ) {p : Place} → p .east ≡ side u → p .north ≡ side v → p .x ≡ index u → p .y ≡ index v → squareOf p ≡ record { longitude = u; latitude = v }
+square-of u v a b c d = rw (a, b, c, d, unit-of u, unit-of v) refl
+
+-- ---- the text
+
+module _ (level longitude latitude : ℤ) {l : ℕ} (el : l ≡ levelNumber level) where
+  pub asked-level : l ≡ 0 → refuse (refusal 1 0) ≡ planeText level longitude latitude
+  unfolding planeText
+  asked-level h = rw (le-ltb 0 (levelNumber level) (omega arith)) refl
+
+  module _ (some : l ≡ 0 → ⊥) {x : ℕ} (ex : x ≡ index longitude) where
+    level-some : 0 < levelNumber level
+    level-some = omega arith
+
+    pub asked-longitude : 1327104000 ≤ x → refuse (refusal 2 0) ≡ planeText level longitude latitude
+    unfolding planeText
+    asked-longitude h = rw (lt-ltb 0 (levelNumber level) level-some, le-ltb (index longitude) 1327104000 (omega arith)) refl
+
+    module _ (hx : x < 1327104000) {y : ℕ} (ey : y ≡ index latitude) where
+      pub asked-latitude : 663552000 ≤ y → refuse (refusal 3 0) ≡ planeText level longitude latitude
+      unfolding planeText
+      asked-latitude h = rw (lt-ltb 0 (levelNumber level) level-some, lt-ltb (index longitude) 1327104000 (omega arith), le-ltb (index latitude) 663552000 (omega arith)) refl
+
+      pub asked-at : y < 663552000 → {p : Place} → Placed longitude latitude p → text (codeOf l (squareOf p)) ≡ planeText level longitude latitude
+      unfolding planeText
+      asked-at h {p} q =
+          rw (lt-ltb 0 (levelNumber level) level-some, lt-ltb (index longitude) 1327104000 (omega arith), lt-ltb (index latitude) 663552000 (omega arith))
+          (ap (λ (s : Square). text (codeOf l s)) (q .same) ∙ ap (λ (k : ℕ). text (codeOf k (record { longitude = longitude; latitude = latitude }))) el)
+
+-- ---- what was asked for, once its case is known
+
+pub fitting-at : {a : Asked} {l : ℕ} {p : Place} → a ≡ At l p → Fitting a → (1 ≤ l) × (l ≤ 10) × (p .x < 1327104000) × (p .y < 663552000)
+fitting-at e f = subst Fitting e f
+
+pub text-at : {a : Asked} {l : ℕ} {p : Place} {t : Text} → a ≡ At l p → askedText a ≡ t → text (codeOf l (squareOf p)) ≡ t
+text-at e f = ap askedText (sym e) ∙ f
+
+pub text-refused : {a : Asked} {r : Refusal} {t : Text} → a ≡ Refused r → askedText a ≡ t → t ≡ refuse r
+text-refused e f = sym f ∙ ap askedText e

@@ -1,0 +1,5 @@
+pub mod Start
+pub mod Lengths
+pub mod Signed
+pub mod Asking
+pub mod Reading

@@ -1,0 +1,58 @@
+-- A signed number and its outward index, at any width. Assumes nothing.
+use mathlib.Core.Path.{_≡_, refl, sym, ap, subst, _∙_}
+use mathlib.Core.Bool.{Bool, true, false}
+use Prim.Native.Nat.{ℕ, zero, suc, _-_, _<_, _^_, zero-le}
+use native.Mathlib.Omega.{arith}
+use native.Mathlib.Nat.{lt-of-lt-of-le, not-suc-le-zero}
+use borrow.Author.Tests.{ltb-true, le-ltb, le-leb}
+use lib.IntN.{ℤ, pos, negsuc, _-ℤ_, natAbs}
+use lib.Signed.{ltZ, leZ, nonNeg, mag}
+use lib.Dec.{T, ltb, leb}
+use lib.Pow.{pow-mono}
+use mir.Syntax.{Width}
+use mir.Val.{Fits, SFits, toZ, ofZ, hbits, bits}
+use mir.Facts.{toZ-ofZ, fits-ofZ, toZ-pos, sfits-widen}
+use Rattle.grid.specs.Units.{side, index}
+
+side-of : (u : ℤ) → leZ (pos 0) u ≡ side u
+side-of (pos n) = le-leb 0 n zero-le
+side-of (negsuc n) = refl
+
+flip : (u : ℤ) → ltZ u (pos 0) ≡ true → negsuc 0 -ℤ u ≡ pos (index u)
+flip (pos n) t = absurd (not-suc-le-zero (ltb-true n 0 t))
+flip (negsuc n) t = simp (le-ltb (suc n) 1 (omega arith)) (ap pos (omega arith))
+
+keep : (u : ℤ) → ltZ u (pos 0) ≡ false → u ≡ pos (index u)
+keep (pos n) t = refl
+keep (negsuc n) t = cc
+
+out-mag : (u : ℤ) → index u ≡ mag u
+out-mag (pos n) = refl
+out-mag (negsuc n) = refl
+
+module _ {w : Width} {u : ℤ} (f : SFits w u) where
+  pub sided : leZ (pos 0) (toZ w (ofZ w u)) ≡ side u
+  sided = rw (toZ-ofZ f) (side-of u)
+
+  -- what holds of a z that is the outward index of u
+  ok : {z : ℤ} → z ≡ pos (index u) → SFits w z
+  ok e = subst (SFits w) (sym e) (record { sfits = rw (out-mag u) (f .sfits) })
+
+  back : {z : ℤ} → z ≡ pos (index u) → toZ w (ofZ w z) ≡ pos (index u)
+  back e = toZ-ofZ (ok e) ∙ e
+
+  pub casts : {z : ℤ} → z ≡ pos (index u) → T (nonNeg z) × Fits w (natAbs z)
+  casts e = rw e (tt, fits-ofZ (ok refl))
+
+  module _ (t : ltZ (toZ w (ofZ w u)) (pos 0) ≡ true) where
+    pub flipped : negsuc 0 -ℤ toZ w (ofZ w u) ≡ pos (index u)
+    flipped = rw (toZ-ofZ f) (flip u (rw (toZ-ofZ f) at t))
+
+    pub flipped-fits : SFits w (negsuc 0 -ℤ toZ w (ofZ w u))
+    flipped-fits = ok flipped
+
+    pub flipped-back : toZ w (ofZ w (negsuc 0 -ℤ toZ w (ofZ w u))) ≡ pos (index u)
+    flipped-back = back flipped
+
+  pub kept : ltZ (toZ w (ofZ w u)) (pos 0) ≡ false → toZ w (ofZ w u) ≡ pos (index u)
+  kept t = toZ-ofZ f ∙ keep u (rw (toZ-ofZ f) at t)

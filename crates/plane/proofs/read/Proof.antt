@@ -1,0 +1,73 @@
+-- `plane::read` meets its contract. Assumes nothing.
+use mathlib.Core.Path.{_≡_, refl, sym, _∙_, ap, subst}
+use native.Mathlib.Omega.{arith}
+use lib.ListN.{length}
+use Rattle.grid.specs.Answers as answers
+use Rattle.plane.specs.Start.{firstRead, Ranged}
+use Rattle.plane.proofs.Reading.{Leveled, leveled, read-none, read-first, read-rest, length-four}
+use borrow.Author.Needs.{needs}
+use Rattle.plane.proofs.read.Statement.{statement}
+use Rattle.plane.proofs.read.Tie as tie
+use Rattle.polar_read.proofs.rest.Reads as rest-reads′
+
+-- the level that was found is the code's
+known : (c : tie.Else1) → Leveled (length (c .before .before .before .args .code .now)) (c .before .level-of .result)
+known c = leveled _ (c .before .level-of .ensures) (c .if1 .left)
+
+level-of-requires : tie.Need-level-of-requires
+level-of-requires c κs = search needs
+
+refuse-requires : tie.Need-refuse-requires
+refuse-requires c κs = search needs
+
+returns : tie.Need-returns
+returns c = ap answers.refused (c .refuse .ensures) ∙ read-none (c .before .before .before .before .args .code .now) (c .before .before .level-of .ensures) (c .before .if1 .taken)
+
+begin-requires : tie.Need-begin-requires
+begin-requires c κs = length-four (known c)
+
+enum-known-north : tie.Need-enum-known-north
+enum-known-north c = search needs
+
+rest-requires : tie.Need-rest-requires
+rest-requires c κs =
+    let l = known (c .before .before .before .before) in
+    let r = subst Ranged (c .before .north .given .1) (c .before .before .before .begin .ensures .1) in
+    record { some-level = l .low; last-level = l .high; some-zone = r .0; last-zone = r .1; last-row = r .2; length-is = l .long }
+
+enum-known-north-2 : tie.Need-enum-known-north-2
+enum-known-north-2 c = search needs
+
+rest-requires-2 : tie.Need-rest-requires-2
+rest-requires-2 c κs =
+    let l = known (c .before .before .before .before) in
+    record { some = l .low; most = l .high; long = l .long }
+
+enum-known-place : tie.Need-enum-known-place
+enum-known-place c = search needs
+
+returns-2 : tie.Need-returns-2
+returns-2 c = read-rest (c .before .before .before .before .before .before .before .before .args .code .now) (known (c .before .before .before .before .before)) (ap firstRead (sym (c .before .before .north .given .1)) ∙ c .before .before .before .before .begin .ensures .0) (c .rest .ensures)
+
+returns-3 : tie.Need-returns-3
+returns-3 c = read-rest (c .before .before .before .before .before .before .before .before .args .code .now) (known (c .before .before .before .before .before)) (ap firstRead (sym (c .before .before .north2 .given .1)) ∙ c .before .before .before .before .begin .ensures .0) (c .rest2 .ensures)
+
+returns-4 : tie.Need-returns-4
+returns-4 c = read-first (c .before .before .before .before .before .before .before .args .code .now) (known (c .before .before .before .before)) (ap firstRead (sym (c .before .place .given .1)) ∙ c .before .before .before .begin .ensures .0)
+
+pub read-spec : {M : Type 1} → statement M
+read-spec =
+    tie.close
+    (tie.spec
+    level-of-requires
+    refuse-requires
+    returns
+    begin-requires
+    enum-known-north
+    rest-requires
+    enum-known-north-2
+    rest-requires-2
+    enum-known-place
+    returns-2
+    returns-3
+    returns-4)

@@ -1,0 +1,265 @@
+// Plane codes of levels 1 to 10 (document 01): from position to code, and from code to cell.
+// The ordinary cells and the polar ones go their own roads below this crate; here the refusals are decided and the line is lent on.
+
+ghost use mathlib.Core.Path.{_≡_};
+ghost use Prim.Native.Nat.{_+_, _-_, _*_, _≤_, _<_};
+ghost use lib.ListN.{length, getD, take};
+ghost use Rattle.grid.specs.Splits.{splitAt};
+ghost use Rattle.grid.specs.Units.{side, index, squareOf};
+ghost use Rattle.grid.specs.Characters.{digitOf};
+ghost use Rattle.grid.specs.Answers.{refusal, planeRead};
+ghost use Rattle.grid.specs.Laying.{text, laid, written};
+ghost use Rattle.grid.specs.Plane.{codeOf, cellOf, globeChild};
+ghost use Rattle.plane.specs.Text.{planeText, levelNumber, levelOf, askedText, Fitting, Placed, Writable};
+ghost use Rattle.plane.specs.Start.{firstRead, Ranged, letteredRead, zonedRead};
+ghost use mathlib.Core.List.{map};
+use grid::Place;
+use grid::PlaneRead;
+use grid::Refusal;
+use grid::Written;
+ghost use lib.Seq.{sets};
+
+// The length of the codes of a level.
+pub fn length_of(level: u32) -> usize
+    requires { ⌜ (1 ≤ level) × (level ≤ 10) ⌝ }
+    ensures { λ r. ⌜ r ≡ splitAt (level - 1) .length ⌝ }
+{
+    match level {
+        1 => grid::split_of(0).length,
+        2 => grid::split_of(1).length,
+        3 => grid::split_of(2).length,
+        4 => grid::split_of(3).length,
+        5 => grid::split_of(4).length,
+        6 => grid::split_of(5).length,
+        7 => grid::split_of(6).length,
+        8 => grid::split_of(7).length,
+        9 => grid::split_of(8).length,
+        _ => grid::split_of(9).length,
+    }
+}
+
+// The place n holds the level of the codes that are n bytes long, 0 where there is none.
+const LEVELS: [u8; 21] = [
+    0,
+    0,
+    0,
+    0,
+    1,
+    0,
+    2,
+    3,
+    0,
+    4,
+    0,
+    5,
+    6,
+    0,
+    7,
+    0,
+    8,
+    0,
+    9,
+    0,
+    10,
+];
+
+// The level of the codes of a length; 0 where there is none.
+pub fn level_of(n: usize) -> u32
+    ensures { λ r. ⌜ r ≡ levelOf n ⌝ }
+{
+    if n < 21 { LEVELS[n] as u32 } else { 0 }
+}
+
+// The first four characters: a sheet by zone and row, N000 or S000, or the place of the first bad one.
+pub enum First {
+    Sheet(bool, u32, u32),
+    Pole(bool),
+    Bad(usize),
+}
+
+// The row letter of a zone.
+fn lettered(north: bool, z: u32, d: u32) -> First
+    requires { ⌜ (1 ≤ z) × (z ≤ 60) ⌝ }
+    ensures { λ r. ⌜ (firstRead r ≡ letteredRead north z d) × Ranged r ⌝ }
+{
+    if d < 10 {
+        return First::Bad(3);
+    }
+    if 31 < d {
+        return First::Bad(3);
+    }
+    First::Sheet(north, z, d - 10)
+}
+
+// The zone and what follows it, after N or S.
+fn zoned(north: bool, b: u32, c: u32, d: u32) -> First
+    ensures { λ r. ⌜ (firstRead r ≡ zonedRead north b c d) × Ranged r ⌝ }
+{
+    if 6 < b {
+        return First::Bad(1);
+    }
+    if 9 < c {
+        return First::Bad(2);
+    }
+    let z = 10 * b + c;
+    if 60 < z {
+        return First::Bad(2);
+    }
+    if 0 < z {
+        return lettered(north, z, d);
+    }
+    if d == 0 {
+        First::Pole(north)
+    } else {
+        First::Bad(3)
+    }
+}
+
+// The first four characters of a code.
+fn begin(code: &[u8]) -> First
+    requires { ⌜ 4 ≤ length (now code) ⌝ }
+    ensures { λ r. ⌜ (firstRead r ≡ globeChild (take 4 (map digitOf (now (code .entry))))) × Ranged r ⌝ }
+{
+    let a = grid::digit(code[0]);
+    let b = grid::digit(code[1]);
+    let c = grid::digit(code[2]);
+    let d = grid::digit(code[3]);
+    if a == 23 {
+        return zoned(true, b, c, d);
+    }
+    if a == 28 {
+        return zoned(false, b, c, d);
+    }
+    First::Bad(0)
+}
+
+// What a position writer is asked for, once refusals 1, 2 and 3 are decided in that order.
+pub enum Asked {
+    At(u32, Place),
+    Refused(Refusal),
+}
+
+// A refusal that carries no place.
+pub fn refuse(number: u32) -> Refusal
+    ensures { λ r. ⌜ r ≡ refusal number 0 ⌝ }
+{
+    Refusal {
+        number: number,
+        place: 0,
+        ordinal: 1,
+    }
+}
+
+// The outward index of a longitude or latitude.
+pub fn outward(u: i64) -> u64
+    ensures { λ r. ⌜ r ≡ index u ⌝ }
+{
+    if u < 0 { (-1 - u) as u64 } else { u as u64 }
+}
+
+// Which side of 0 it lies on.
+pub fn upper(u: i64) -> bool
+    ensures { λ r. ⌜ r ≡ side u ⌝ }
+{
+    0 <= u
+}
+
+// The place of a position on the globe.
+fn placed(longitude: i64, latitude: i64, x: u64, y: u64) -> Place
+    requires { ⌜ (x ≡ index longitude) × (y ≡ index latitude) × (x < 1327104000) × (y < 663552000) ⌝ }
+    ensures { λ r. ⌜ Placed longitude latitude r ⌝ }
+{
+    Place {
+        east: upper(longitude),
+        north: upper(latitude),
+        x: x as u32,
+        y: y as u32,
+    }
+}
+
+// The level, or 0 where it is outside 1 to 10.
+pub fn level_in(level: i64) -> u32
+    ensures { λ r. ⌜ r ≡ levelNumber level ⌝ }
+{
+    let n = outward(level);
+    if 10 < n {
+        return 0;
+    }
+    if upper(level) { n as u32 } else { 0 }
+}
+
+// Refusals 1, 2 and 3, else the level and the place.
+pub fn ask(level: i64, longitude: i64, latitude: i64) -> Asked
+    ensures { λ r. ⌜ (askedText r ≡ planeText level longitude latitude) × Fitting r ⌝ }
+{
+    let l = level_in(level);
+    if l == 0 {
+        return Asked::Refused(refuse(1));
+    }
+    let x = outward(longitude);
+    if 1327104000 <= x {
+        return Asked::Refused(refuse(2));
+    }
+    let y = outward(latitude);
+    if 663552000 <= y {
+        return Asked::Refused(refuse(3));
+    }
+    Asked::At(l, placed(longitude, latitude, x, y))
+}
+
+// Writes the code of a level for a place from the line's first byte on.
+pub fn put(level: u32, p: Place, line: &mut [u8])
+    requires { ⌜ Writable level p (now line) ⌝ }
+    ensures { λ _. ⌜ now (line .exit) ≡ sets (now (line .entry)) 0 (codeOf level (squareOf p)) ⌝ }
+{
+    if p.y < 648806400 {
+        ordinary_write::put(level, p, line);
+    } else {
+        polar_write::put(level, p, line);
+    }
+}
+
+// Lays the code of a level for a place into the line from `at` on, if there is room: refusal 5, else the number of bytes.
+pub fn lay(level: u32, p: Place, line: &mut [u8], at: usize) -> Written
+    requires { ⌜ (1 ≤ level) × (level ≤ 10) × (p .x < 1327104000) × (p .y < 663552000) ⌝ }
+    ensures { λ r. ⌜ (written r, now (line .exit)) ≡ laid (text (codeOf level (squareOf p))) (now (line .entry)) at ⌝ }
+{
+    let n = length_of(level);
+    if line.len() < at {
+        return Written::Refused(refuse(5));
+    }
+    if line.len() - at < n {
+        return Written::Refused(refuse(5));
+    }
+    put(level, p, &mut line[at..]);
+    Written::Bytes(n)
+}
+
+// The plane code of a position, written into the line from `at` on. Refusals 1, 2, 3 and 5, in that order; a refusal changes no byte.
+pub fn write(level: i64, longitude: i64, latitude: i64, line: &mut [u8], at: usize) -> Written
+    ensures { λ r. ⌜ (written r, now (line .exit)) ≡ laid (planeText level longitude latitude) (now (line .entry)) at ⌝ }
+{
+    match ask(level, longitude, latitude) {
+        Asked::At(l, p) => lay(l, p, line, at),
+        Asked::Refused(r) => Written::Refused(r),
+    }
+}
+
+// The cell of a plane code. Refusals 6 and 7, in that order; 7 has the place of the first bad character.
+pub fn read(code: &[u8]) -> PlaneRead
+    ensures { λ r. ⌜ planeRead r ≡ cellOf (now (code .entry)) ⌝ }
+{
+    let level = level_of(code.len());
+    if level == 0 {
+        return PlaneRead::Refused(refuse(6));
+    }
+    match begin(code) {
+        First::Sheet(north, zone, row) => ordinary_read::rest(level, north, zone, row, code),
+        First::Pole(north) => polar_read::rest(level, north, code),
+        First::Bad(place) => PlaneRead::Refused(Refusal {
+            number: 7,
+            place: place,
+            ordinal: 1,
+        }),
+    }
+}

@@ -1,0 +1,112 @@
+-- One division of a cursor's cell: which children there are, that a child lies in its parent, and the cursor that a child makes.
+-- Assumes nothing.
+use mathlib.Core.Path.{_≡_, refl, sym, _∙_, ap, subst}
+use mathlib.Core.Bool.{Bool, true, false, not, cond, _||_}
+use Prim.Native.Nat.{ℕ, zero, suc, _+_, _*_, _/_, _≤_, _<_}
+use native.Mathlib.Nat.{div-mul-le-self, mul-comm}
+use native.Mathlib.Omega.{arith}
+use lib.Dec.{ltb, eqb}
+use borrow.Author.Tests.{lt-ltb, le-ltb, eqb-true, eqb-false, ne-eqb}
+use Rattle.grid.specs.declared.Split.{Split}
+use Rattle.grid.specs.Tree.{Read, ok, bad}
+use Rattle.grid.specs.Plane.{allowed, Part, Node, cell, disc, sub, round, ringNode}
+use Rattle.grid.proofs.Cut.{clash, cut-end}
+use Rattle.grid.proofs.Step.{allowed-of}
+use Rattle.polar_read.specs.declared.Cursor.{Cursor}
+use Rattle.polar_read.specs.Reading.{nodeOf, HasRead, columnsOf, inmostOf, divided, childIn, settledOf, Moved}
+use Rattle.polar_read.specs.Room.{Room, ChildRoom}
+
+-- a cursor that has read r has read what equals it
+pub reads-as : {n : Bool} {at : ℕ} {r q : Read Node} {c : Cursor} → r ≡ q → HasRead n at r c → HasRead n at q c
+reads-as {n} {at} {c = c} e t = subst (λ (x : Read Node). HasRead n at x c) e t
+
+-- ---- which children there are
+
+last-test : (inner : Bool) (i j : ℕ) → (not inner || (ltb 0 j || eqb i 0)) ≡ cond (cond inner (eqb j 0) false) (eqb i 0) true
+last-test false i j = refl
+last-test true i zero = refl
+last-test true i (suc j) = rw (lt-ltb 0 (suc j) (omega arith), ne-eqb (suc j) 0 (λ e. omega arith)) refl
+
+module _ (c : Cursor) (s : Split) {columns : ℕ} (e : columns ≡ columnsOf c s) (i j : ℕ) where
+  pub no-column : columns ≤ i → false ≡ allowed (c .cap) (divided c s) i j
+  no-column h = rw (← e, le-ltb i columns h)
+
+  pub no-row : i < columns → s .inward ≤ j → false ≡ allowed (c .cap) (divided c s) i j
+  no-row l h = rw (← e, lt-ltb i columns l, le-ltb j (s .inward) h)
+
+  pub a-child : {t : Bool} → i < columns → j < s .inward → t ≡ inmostOf c j → cond t (eqb i 0) true ≡ allowed (c .cap) (divided c s) i j
+  a-child l h q = rw (← e, lt-ltb i columns l, lt-ltb j (s .inward) h, q) (sym (last-test (c .cap) i j))
+
+pub child-room : (c : Cursor) (s : Split) {columns : ℕ} (i j : ℕ) {t : Bool} → Room c s → columns ≡ columnsOf c s → t ≡ allowed (c .cap) (divided c s) i j → t ≡ true → ChildRoom c s columns i j
+child-room c s i j r e q h =
+    let a = allowed-of (c .cap) (divided c s) i j (sym q ∙ h) in
+    record { room = r; counted = e; column = omega (arith, e, a .col); row = a .row }
+
+-- the child where there is one, and else the place
+module _ (c : Cursor) (s : Split) (i j at : ℕ) {t : Bool} (q : t ≡ allowed (c .cap) (divided c s) i j) {m : Cursor} where
+  pub settled-there : t ≡ true → Moved c s (ok (childIn c s i j)) m → Moved c s (settledOf c s i j at) m
+  settled-there h r = reads-as (rw (← q, h) refl) r
+
+  pub settled-not : t ≡ false → Moved c s (bad at) m → Moved c s (settledOf c s i j at) m
+  settled-not h r = reads-as (rw (← q, h) refl) r
+
+-- ---- the child's cursor
+
+-- part i of n equal parts of w ends within w
+pub part-end : (i n w : ℕ) → i < n → i * (w / n) + w / n ≤ w
+part-end i n w h = omega (arith, cut-end i n (w / n) (n * (w / n)) h refl, div-mul-le-self w n, mul-comm n (w / n))
+
+ring-node : (n : Bool) (p : Part) (h i j : ℕ) → ¬ (j ≡ 0) → ringNode n p h i j ≡ cell (disc n) (sub p (round h) i j)
+ring-node n p h i zero f = absurd (f refl)
+ring-node n p h i (suc j) f = refl
+
+module _ (c : Cursor) (s : Split) {columns i j : ℕ} (r : ChildRoom c s columns i j) {t : Bool} (q : t ≡ inmostOf c j) where
+  -- the new cap
+  abbrev narrowed : Cursor
+  narrowed =
+      record { good = c .good; place = c .place + s .characters; north = c .north; cap = c .cap; disc = c .disc; east = c .east; x = c .x; w = c .w; y = c .y; h = c .h / s .inward }
+
+  -- the cell in column i and row j
+  abbrev parted : Cursor
+  parted =
+      record {
+        good = c .good;
+        place = c .place + s .characters;
+        north = c .north;
+        cap = false;
+        disc = c .disc;
+        east = c .east;
+        x = c .x + i * (c .w / columns);
+        w = c .w / columns;
+        y = c .y + j * (c .h / s .inward);
+        h = c .h / s .inward;
+      }
+
+  narrowed-node : t ≡ true → nodeOf narrowed ≡ childIn c s i j
+  narrowed-node e = go (c .cap) refl (sym q ∙ e)
+    where
+      go : (b : Bool) → c .cap ≡ b → cond b (eqb j 0) false ≡ true → nodeOf narrowed ≡ childIn c s i j
+      go true p z = rw (p, eqb-true j 0 z) refl
+      go false p z = clash (cc)
+
+  parted-node : t ≡ false → nodeOf parted ≡ childIn c s i j
+  parted-node e = go (c .cap) refl (sym q ∙ e) (r .counted)
+    where
+      go : (b : Bool) → c .cap ≡ b → cond b (eqb j 0) false ≡ false → columns ≡ cond b (s .ring) (s .columns) → nodeOf parted ≡ childIn c s i j
+      go true p z k =
+          let a = r .room .round p in
+          rw (p, k, ring-node (c .north) _ (c .h) i j (eqb-false j 0 z), a .in-disc, a .west, a .wide, a .inner) refl
+      go false p z k = rw (p, k) refl
+
+  pub child-inmost : t ≡ true → Moved c s (ok (childIn c s i j)) narrowed
+  child-inmost e =
+      record {
+        means = rw (r .room .good) (ap ok (narrowed-node e));
+        placed = λ g. refl;
+        sided = refl;
+        round = λ g. (let a = r .room .round g in record { in-disc = a .in-disc; west = a .west; wide = a .wide; inner = a .inner });
+      }
+
+  pub child-other : t ≡ false → Moved c s (ok (childIn c s i j)) parted
+  child-other e =
+      record { means = rw (r .room .good) (ap ok (parted-node e)); placed = λ g. refl; sided = refl; round = λ g. clash (cc) }

@@ -1,0 +1,232 @@
+-- The cursor after one level more, and after the last: it means what was read so far, and its cell lies on the globe.
+-- Assumes nothing.
+use mathlib.Core.Path.{_≡_, refl, sym, _∙_, ap, subst}
+use mathlib.Core.Bool.{Bool, true, false, _&&_}
+use mathlib.Core.List.{List}
+use Prim.Native.Nat.{ℕ, suc, _+_, _-_, _≤_, _<_, min}
+use native.Mathlib.Omega.{arith}
+use lib.Dec.{ltb, eqb, leb}
+use lib.IntN.{ℤ}
+use lib.ListN.{length, drop}
+use borrow.Author.Tests.{eqb-true, leb-true, ltb-true}
+use Rattle.grid.specs.declared.Split.{Split}
+use Rattle.grid.specs.Units.{TURN}
+use Rattle.grid.specs.Tree.{Read, ok, bad, follow}
+use Rattle.grid.specs.declared.Cell.{Cell}
+use Rattle.grid.specs.Answers.{Answer}
+use Rattle.grid.specs.Codes.{answer}
+use Rattle.grid.specs.Splits.{splits, splitAt}
+use Rattle.grid.specs.Plane.{Node, pole, least, longitudeAt, leastFromPole, cellFrom, cellAt, planeCodes, restOf}
+use Rattle.grid.proofs.Cut.{clash, and-true, allBelow, below}
+use Rattle.grid.proofs.PlaneLaws.{Good, GoodCell, GoodCap, cell-positive, cap-positive, limX, limY}
+use Rattle.polar_read.specs.declared.Cursor.{Cursor}
+use Rattle.polar_read.specs.Reading.{frameOf, boxOf, nodeOf, readOf, startOf, Round, HasRead, stepOf, soFar, Reached, answerOf}
+use Rattle.polar_read.specs.Room.{OfLevel, Room, Ready, Whole}
+use Rattle.polar_read.proofs.SoFar.{so-far-on, so-far-bad, so-far-good}
+
+-- ---- the table
+
+-- a level's characters follow those before
+adds : (k : ℕ) → 1 ≤ k → k < 10 → splitAt (k - 1) .length + splitAt k .characters ≡ splitAt k .length
+adds k a b =
+    let e : k - 1 + 1 ≡ k = omega arith in
+    let t : splitAt (k - 1) .length + splitAt (k - 1 + 1) .characters ≡ splitAt (k - 1 + 1) .length =
+    eqb-true _ _ (below (λ j. eqb (splitAt j .length + splitAt (j + 1) .characters) (splitAt (j + 1) .length)) 9 (k - 1) refl (omega arith)) in
+    rw e at t
+
+-- a deeper level's codes are longer, and none has more than 20 characters
+grows : (i j : ℕ) → i ≤ j → j < 10 → splitAt i .length ≤ splitAt j .length
+grows i j a b =
+    leb-true _ _
+    (below (λ i. leb (splitAt i .length) (splitAt j .length)) (suc j) i
+    (below (λ j. allBelow (λ i. leb (splitAt i .length) (splitAt j .length)) (suc j)) 10 j refl b)
+    (omega arith))
+
+-- ---- a good cell lies on the globe and is not empty
+
+good-whole : (ts : List Split) (c : Cursor) → Round c → Good ts (nodeOf c) → Whole c
+good-whole ts c r g = go (c .cap) refl (c .disc) refl
+  where
+    go : (b : Bool) → c .cap ≡ b → (d : Bool) → c .disc ≡ d → Whole c
+    go true p d q =
+        let a = r p in
+        let k : GoodCap ts (c .h) = rw p at g in
+        let i : c .disc ≡ true = a .in-disc in
+        record {
+          some-w = omega (arith, a .wide);
+          some-h = cap-positive ts (c .h) k;
+          high = omega (arith, a .inner, k .fit);
+          in-disc = λ e. omega (arith, a .west, a .wide);
+          in-belt = λ e. clash (cc);
+          round = r;
+        }
+    go false p true q =
+        let k : GoodCell ts (frameOf c) (boxOf c) = rw p at g in
+        let fx : c .x + c .w ≤ limX (frameOf c) = k .fit .wide in
+        let fy : c .y + c .h ≤ limY (frameOf c) = k .fit .high in
+        let x : c .x + c .w ≤ 2654208000 = rw q at fx in
+        let y : c .y + c .h ≤ 7372800 = rw q at fy in
+        let z = cell-positive ts (frameOf c) (boxOf c) k in
+        record { some-w = z .0; some-h = z .1; high = omega arith; in-disc = λ e. x; in-belt = λ e. clash (cc); round = r }
+    go false p false q =
+        let k : GoodCell ts (frameOf c) (boxOf c) = rw p at g in
+        let fx : c .x + c .w ≤ limX (frameOf c) = k .fit .wide in
+        let fy : c .y + c .h ≤ limY (frameOf c) = k .fit .high in
+        let x : c .x + c .w ≤ 1327104000 = rw q at fx in
+        let y : c .y + c .h ≤ 663552000 = rw q at fy in
+        let z = cell-positive ts (frameOf c) (boxOf c) k in
+        record { some-w = z .0; some-h = z .1; high = y; in-disc = λ e. clash (cc); in-belt = λ e. x; round = r }
+
+pub whole : (l : ℕ) (w : List ℕ) (c : Cursor) → 1 ≤ l → l ≤ 10 → Reached l w c → c .good ≡ true → Whole c
+whole l w c a b r g =
+    let e : readOf c ≡ ok (nodeOf c) = rw g refl in
+    good-whole (drop l splits) c (r .round) (so-far-good (c .north) l w a b (sym (r .means) ∙ e))
+
+wide-of : (c : Cursor) → Whole c → c .x + c .w ≤ TURN
+wide-of c o = go (c .disc) refl
+  where
+    go : (d : Bool) → c .disc ≡ d → c .x + c .w ≤ TURN
+    go true q = o .in-disc q
+    go false q = omega (arith, o .in-belt q)
+
+-- ---- one level more
+
+module _ {level k n : ℕ} {s : Split} {w : List ℕ} {c : Cursor} (r : Ready level k s n w c) where
+  -- the code has no such level
+  pub level-past : level ≤ k → Reached (min (k + 1) level) w c
+  level-past h =
+      let e : min (k + 1) level ≡ min k level = omega arith in
+      subst (λ (l : ℕ). Reached l w c) (sym e) (r .so-far)
+
+  module _ (h : k < level) where
+    at-level : Reached k w c
+    at-level = let e : min k level ≡ k = omega arith in subst (λ (l : ℕ). Reached l w c) e (r .so-far)
+
+    to-next : {m : Cursor} → Reached (k + 1) w m → Reached (min (k + 1) level) w m
+    to-next {m} q = let e : min (k + 1) level ≡ k + 1 = omega arith in subst (λ (l : ℕ). Reached l w m) (sym e) q
+
+    -- a character before was not allowed
+    pub level-bad : c .good ≡ false → Reached (min (k + 1) level) w c
+    level-bad g =
+        let e : readOf c ≡ bad (c .place) = rw g refl in
+        let b : soFar (c .north) k w ≡ bad (c .place) = sym (at-level .means) ∙ e in
+        to-next
+        (record {
+          means = e ∙ sym (so-far-bad (c .north) k w (r .later) (r .last) b);
+          placed = λ t. clash (cc);
+          sided = refl;
+          round = at-level .round;
+        })
+
+    module _ (g : c .good ≡ true) where
+      starts : c .place + s .characters ≡ splitAt k .length
+      starts = rw (at-level .placed g, r .table) (adds k (r .later) (r .last))
+
+      pub level-room : Room c s
+      level-room =
+          let o = whole k w c (r .later) (omega (arith, r .last)) at-level g in
+          let l : splitAt k .length ≤ 20 = grows k 9 (omega (arith, r .last)) (omega arith) in
+          record { good = g; near = omega (arith, starts); wide = wide-of c o; high = o .high; round = at-level .round }
+
+      pub level-long : c .place + n ≤ length w
+      level-long =
+          let l : splitAt k .length ≤ splitAt (level - 1) .length = grows k (level - 1) (omega arith) (omega (arith, r .long .most)) in
+          omega (arith, starts, r .size, r .long .long)
+
+      pub level-read : {m : Cursor} → HasRead (c .north) (c .place + s .characters) (stepOf c s w) m → Reached (min (k + 1) level) w m × (m .north ≡ c .north)
+      unfolding stepOf
+      level-read {m} q =
+          let e : readOf c ≡ ok (nodeOf c) = rw g refl in
+          let b : soFar (c .north) k w ≡ ok (nodeOf c) = sym (at-level .means) ∙ e in
+          let z : k + 1 - 1 ≡ k = omega arith in (
+            to-next (record {
+              means = q .means ∙ rw (q .sided, so-far-on (c .north) k w (r .later) (r .last) b, at-level .placed g, r .table) refl;
+              placed = λ t. q .placed t ∙ starts ∙ ap (λ (j : ℕ). splitAt j .length) (sym z);
+              sided = refl;
+              round = q .round;
+            }),
+            q .sided,
+          )
+
+-- what a step asks, at a level that a literal names
+pub ready : {level n : ℕ} {s : Split} {w : List ℕ} {c : Cursor} (k : ℕ) → (leb 1 k && (ltb k 10 && eqb (splitAt k .characters) n)) ≡ true
+    → OfLevel level w → s ≡ splitAt k → Reached (min k level) w c → Ready level k s n w c
+ready {n = n} k t a e r =
+    let u = and-true (leb 1 k) _ t in
+    let v = and-true (ltb k 10) _ (u .1) in
+    record {
+      later = leb-true 1 k (u .0);
+      last = ltb-true k 10 (v .0);
+      long = a;
+      table = e;
+      size = ap (λ (x : Split). x .characters) e ∙ eqb-true _ n (v .1);
+      so-far = r;
+    }
+
+-- ---- the cell that is handed back
+
+module _ (l : ℕ) (c : Cursor) (o : Whole c) {a b a' b' : ℤ} where
+  pub cell-disc : c .disc ≡ true → a' ≡ a → a ≡ longitudeAt (c .x) → b' ≡ b → b ≡ leastFromPole (c .north) (c .y) (c .h)
+      → cellFrom l a' b' (c .w) (c .h) ≡ cellAt l (nodeOf c)
+  cell-disc d ea ew eb es = rw (ea, ew, eb, es) (go (c .cap) refl)
+    where
+      go : (t : Bool) → c .cap ≡ t → cellFrom l (longitudeAt (c .x)) (leastFromPole (c .north) (c .y) (c .h)) (c .w) (c .h) ≡ cellAt l (nodeOf c)
+      go true p = let r = o .round p in rw (p, r .west, r .wide, r .inner) refl
+      go false p = rw (p, d) refl
+
+  pub cell-belt : c .disc ≡ false → a' ≡ a → a ≡ least (c .east) (c .x) (c .w) → b' ≡ b → b ≡ least (c .north) (c .y) (c .h)
+      → cellFrom l a' b' (c .w) (c .h) ≡ cellAt l (nodeOf c)
+  cell-belt d ea ew eb es = rw (ea, ew, eb, es) (go (c .cap) refl)
+    where
+      go : (t : Bool) → c .cap ≡ t → cellFrom l (least (c .east) (c .x) (c .w)) (least (c .north) (c .y) (c .h)) (c .w) (c .h) ≡ cellAt l (nodeOf c)
+      go true p = let q : c .disc ≡ true = o .round p .in-disc in clash (cc)
+      go false p = rw (p, d) refl
+
+-- ---- the answer
+
+answer-as : (l : ℕ) (r : Read Node) → unfold planeCodes in (answerOf l r ≡ answer planeCodes l r)
+unfolding planeCodes
+answer-as l (ok m) = refl
+answer-as l (bad p) = refl
+
+rest-is : (l : ℕ) (n : Bool) (w : List ℕ) → answerOf l (soFar n l w) ≡ restOf l (pole n) w
+unfolding restOf planeCodes soFar
+rest-is l n w = answer-as l (soFar n l w)
+
+-- ---- N000 and S000
+
+module _ {n : Bool} {c : Cursor} (e : c ≡ startOf n) where
+  pub start-whole : Whole c
+  start-whole =
+      rw e
+      (record {
+        some-w = omega arith;
+        some-h = omega arith;
+        high = omega arith;
+        in-disc = λ g. omega arith;
+        in-belt = λ g. clash (cc);
+        round = λ g. record { in-disc = refl; west = refl; wide = refl; inner = refl };
+      })
+
+  pub start-answers : {l : ℕ} (w : List ℕ) {a : Answer Cell} → l ≡ 1 → a ≡ answerOf l (readOf c) → a ≡ restOf l (pole n) w
+  unfolding soFar follow
+  start-answers {l} w z q = q ∙ rw (e, z) (rest-is 1 n w)
+
+pub long-two : {level : ℕ} {w : List ℕ} → OfLevel level w → (level ≡ 1 → ⊥) → 6 ≤ length w
+long-two {level} a f =
+    let g : splitAt 1 .length ≤ splitAt (level - 1) .length = grows 1 (level - 1) (omega (arith, a .some)) (omega (arith, a .most)) in
+    omega (arith, a .long)
+
+-- the last cursor's answer is the whole reading's
+pub answers : (l : ℕ) (w : List ℕ) {n : Bool} {c : Cursor} {a : Answer Cell} → a ≡ answerOf l (readOf c) → Reached (min 10 l) w c → l ≤ 10 → c .north ≡ n → a ≡ restOf l (pole n) w
+answers l w {n} {c} e r h q =
+    let z : min 10 l ≡ l = omega arith in
+    let m : readOf c ≡ soFar n l w = r .means ∙ ap (λ (j : ℕ). soFar (c .north) j w) z ∙ ap (λ (b : Bool). soFar b l w) q in
+    e ∙ ap (answerOf l) m ∙ rest-is l n w
+
+pub last-whole : {level : ℕ} (w : List ℕ) {c : Cursor} → OfLevel level w → Reached (min 10 level) w c → c .good ≡ true → Whole c
+last-whole {level} w {c} a r g = whole (min 10 level) w c (omega (arith, a .some)) (omega arith) r g
+
+-- level 2 is one of the code's
+pub level-two : {level : ℕ} {w : List ℕ} {c : Cursor} → OfLevel level w → (level ≡ 1 → ⊥) → Reached 2 w c → Reached (min 2 level) w c
+level-two {level} {w} {c} a f r = let e : min 2 level ≡ 2 = omega (arith, a .some) in subst (λ (l : ℕ). Reached l w c) (sym e) r

@@ -1,0 +1,79 @@
+-- Level 2 of a polar code: the cursor of each of the sixteen polar cells, and what the two characters say.
+-- Assumes nothing.
+use mathlib.Core.Path.{_≡_, refl, sym, _∙_, ap}
+use mathlib.Core.Bool.{Bool, true, false}
+use mathlib.Core.List.{List}
+use Prim.Native.Nat.{ℕ, _+_, _-_, _*_, _≤_, _<_}
+use native.Mathlib.Omega.{arith}
+use lib.Dec.{ltb}
+use lib.ListN.{length, getD}
+use borrow.Author.Tests.{lt-ltb, le-ltb, ne-eqb}
+use Rattle.grid.specs.declared.PolarCell.{PolarCell}
+use Rattle.grid.specs.Characters.{digitOf}
+use Rattle.grid.specs.Tree.{Read, ok, bad, guard, follow}
+use Rattle.grid.specs.Splits.{polarCellAt}
+use Rattle.grid.specs.Plane.{Node, pole, polarNode}
+use Rattle.grid.proofs.Cut.{clash}
+use Rattle.grid.proofs.Poles.{placed}
+use Rattle.polar_read.specs.declared.Cursor.{Cursor}
+use Rattle.polar_read.specs.Reading.{startOf, HasRead, soFar, Reached}
+use Rattle.polar_read.proofs.Step.{two-digits, shift-guard}
+use Rattle.polar_read.proofs.SoFar.{so-far-on}
+
+module _ {n : Bool} {b : Cursor} (e : b ≡ startOf n) {k : ℕ} {p : PolarCell} (q : p ≡ polarCellAt k) where
+  pub sixteen-cap : k ≡ 0
+      → HasRead n 6 (ok (polarNode n k)) (record { good = b .good; place = 6; north = b .north; cap = b .cap; disc = b .disc; east = b .east; x = b .x; w = b .w; y = b .y; h = 3686400 })
+  sixteen-cap z =
+      rw (e, z)
+      (record { means = refl; placed = λ g. refl; sided = refl; round = λ g. record { in-disc = refl; west = refl; wide = refl; inner = refl } })
+
+  pub sixteen-disc : ¬ (k ≡ 0) → k < 4
+      → HasRead n 6 (ok (polarNode n k)) (record { good = b .good; place = 6; north = b .north; cap = false; disc = b .disc; east = b .east; x = p .west; w = 884736000; y = 663552000 - p .low - 3686400; h = 3686400 })
+  sixteen-disc z h =
+      rw (e, q)
+      (record { means = rw (ne-eqb k 0 z, lt-ltb k 4 h) refl; placed = λ g. refl; sided = refl; round = λ g. clash (cc) })
+
+  pub sixteen-east : ¬ (k ≡ 0) → 4 ≤ k → p .west < 1327104000
+      → HasRead n 6 (ok (polarNode n k)) (record { good = b .good; place = 6; north = b .north; cap = false; disc = false; east = b .east; x = p .west; w = 442368000; y = p .low; h = 3686400 })
+  sixteen-east z h l =
+      let t : ltb (polarCellAt k .west) 1327104000 ≡ true = lt-ltb _ _ (rw q at l) in
+      rw (e, q)
+      (record { means = rw (ne-eqb k 0 z, le-ltb k 4 h, t) refl; placed = λ g. refl; sided = refl; round = λ g. clash (cc) })
+
+  pub sixteen-west : ¬ (k ≡ 0) → 4 ≤ k → 1327104000 ≤ p .west
+      → HasRead n 6 (ok (polarNode n k)) (record { good = b .good; place = 6; north = b .north; cap = false; disc = false; east = false; x = 2654208000 - p .west - 442368000; w = 442368000; y = p .low; h = 3686400 })
+  sixteen-west z h l =
+      let t : ltb (polarCellAt k .west) 1327104000 ≡ false = le-ltb _ _ (rw q at l) in
+      rw (e, q)
+      (record { means = rw (ne-eqb k 0 z, le-ltb k 4 h, t) refl; placed = λ g. refl; sided = refl; round = λ g. clash (cc) })
+
+module _ {k : ℕ} {p : PolarCell} (q : p ≡ polarCellAt k) (h : k < 16) where
+  pub in-disc : ¬ (k ≡ 0) → k < 4 → p .low ≡ 656179200
+  in-disc z l = rw q (placed k h .in-disc l (omega arith) .0)
+
+  pub in-belt : 4 ≤ k → p .west + 442368000 ≤ 2654208000
+  in-belt l = rw q (placed k h .in-west l)
+
+-- ---- the two characters
+
+first-level : (n : Bool) (w : List ℕ) → soFar n 1 w ≡ ok (pole n)
+unfolding soFar follow
+first-level n w = refl
+
+-- the cursor of level 2
+reached : (n : Bool) (w : List ℕ) {r : Read Node} {c : Cursor} → r ≡ soFar n 2 w → HasRead n 6 r c → Reached 2 w c × (c .north ≡ n)
+reached n w e t =
+    (record { means = t .means ∙ e ∙ ap (λ (b : Bool). soFar b 2 w) (sym (t .sided)); placed = t .placed; sided = refl; round = t .round }, t .sided)
+
+module _ (n : Bool) (w : List ℕ) {a : ℕ} (l : 6 ≤ length w) (ea : a ≡ digitOf (getD w 4 0)) where
+  both : {b : ℕ} → b ≡ digitOf (getD w 5 0) → soFar n 2 w ≡ guard 4 (ltb a 4) (guard 5 (ltb b 4) (ok (polarNode n (4 * a + b))))
+  both {b} eb = so-far-on n 1 w (omega arith) (omega arith) (first-level n w) ∙ rw (two-digits w 4 l, ← ea, ← eb, shift-guard, shift-guard) refl
+
+  pub second-first : {c : Cursor} → 4 ≤ a → HasRead n 6 (bad 4) c → Reached 2 w c × (c .north ≡ n)
+  second-first h t = reached n w (sym (both refl ∙ rw (le-ltb a 4 h) refl)) t
+
+  pub second-second : {b : ℕ} {c : Cursor} → b ≡ digitOf (getD w 5 0) → a < 4 → 4 ≤ b → HasRead n 6 (bad 5) c → Reached 2 w c × (c .north ≡ n)
+  second-second {b} eb h i t = reached n w (sym (both eb ∙ rw (lt-ltb a 4 h, le-ltb b 4 i) refl)) t
+
+  pub second-both : {b : ℕ} {c : Cursor} → b ≡ digitOf (getD w 5 0) → a < 4 → b < 4 → HasRead n 6 (ok (polarNode n (4 * a + b))) c → Reached 2 w c × (c .north ≡ n)
+  second-both {b} eb h i t = reached n w (sym (both eb ∙ rw (lt-ltb a 4 h, lt-ltb b 4 i) refl)) t

@@ -1,0 +1,82 @@
+-- Where one level's characters lead from a cursor's cell, in the terms of the code that reads them.
+-- Assumes nothing.
+use mathlib.Core.Path.{_≡_, refl, sym, _∙_}
+use mathlib.Core.Bool.{Bool, true, false}
+use mathlib.Core.List.{List, [], _∷_, map}
+use Prim.Native.Nat.{ℕ, suc, _+_, _-_, _/_, _%_, _≤_, _<_, min}
+use native.Mathlib.Nat.{add-zero}
+use native.Mathlib.Numerals.{add-one}
+use native.Mathlib.Omega.{arith}
+use lib.Dec.{ltb, eqb}
+use lib.ListN.{length, getD, take, drop, length-map, List·getD-map}
+use lib.Seq.{drop-cons}
+use borrow.Author.Tests.{le-ltb, lt-ltb, ne-eqb}
+use Rattle.grid.specs.declared.Split.{Split}
+use Rattle.grid.specs.Characters.{digitOf}
+use Rattle.grid.specs.Tree.{Read, bad, guard, shift}
+use Rattle.grid.specs.Plane.{readAs, formOf, childOf, nearPole}
+use Rattle.polar_read.specs.declared.Cursor.{Cursor}
+use Rattle.polar_read.specs.Reading.{nodeOf, frameOf, columnsOf, divided, childIn, settledOf, stepOf}
+
+-- ---- the digits of a level
+
+digit-at : (w : List ℕ) (at : ℕ) → at < length w → drop at (map digitOf w) ≡ digitOf (getD w at 0) ∷ drop (suc at) (map digitOf w)
+digit-at w at h =
+    let l : at < length (map digitOf w) = rw (length-map w digitOf) h in
+    rw (← List·getD-map digitOf w at 0) (drop-cons (map digitOf w) at (digitOf 0) l)
+
+pub one-digit : (w : List ℕ) (at : ℕ) → at + 1 ≤ length w → take 1 (drop at (map digitOf w)) ≡ digitOf (getD w at 0) ∷ []
+one-digit w at h = rw (digit-at w at (omega arith)) refl
+
+pub two-digits : (w : List ℕ) (at : ℕ) → at + 2 ≤ length w → take 2 (drop at (map digitOf w)) ≡ digitOf (getD w at 0) ∷ digitOf (getD w (at + 1) 0) ∷ []
+two-digits w at h = rw (digit-at w at (omega arith), digit-at w (suc at) (omega arith), add-one at) refl
+
+-- ---- the grid's division, seen from the cursor
+
+near : (c : Cursor) → nearPole (frameOf c) ≡ true
+near c = go (c .disc) refl
+  where
+    go : (b : Bool) → c .disc ≡ b → nearPole (frameOf c) ≡ true
+    go true p = rw p refl
+    go false p = rw p refl
+
+child-as : (c : Cursor) (s : Split) (d : List ℕ) → childOf s (nodeOf c) d ≡ readAs (formOf (s .characters) (columnsOf c s)) (c .cap) (divided c s) (childIn c s) d
+child-as c s d = go (c .cap) refl
+  where
+    go : (b : Bool) → c .cap ≡ b → childOf s (nodeOf c) d ≡ readAs (formOf (s .characters) (columnsOf c s)) (c .cap) (divided c s) (childIn c s) d
+    go true p = rw p refl
+    go false p = rw (p, near c) refl
+
+pub shift-guard : {A : Type 0} (at p : ℕ) (b : Bool) (r : Read A) → shift at (guard p b r) ≡ guard (at + p) b (shift at r)
+shift-guard at p true r = refl
+shift-guard at p false r = refl
+
+module _ (c : Cursor) (s : Split) (w : List ℕ) {columns : ℕ} (e : columns ≡ columnsOf c s) where
+  step-two : {a b : ℕ} → s .characters ≡ 2 → c .place + 2 ≤ length w → a ≡ digitOf (getD w (c .place) 0) → b ≡ digitOf (getD w (c .place + 1) 0)
+      → stepOf c s w ≡ guard (c .place) (ltb a columns) (settledOf c s a b (c .place + 1))
+  unfolding stepOf
+  step-two {a} {b} n l ea eb =
+      rw (child-as, n, two-digits w (c .place) l, ← ea, ← eb, ← e, shift-guard, shift-guard, add-zero) refl
+
+  -- two characters: the first is no column; or both are read
+  pub two-no : {a : ℕ} → s .characters ≡ 2 → c .place + 2 ≤ length w → a ≡ digitOf (getD w (c .place) 0) → columns ≤ a → bad (c .place) ≡ stepOf c s w
+  two-no {a} n l ea h = rw (step-two n l ea refl, le-ltb a columns h) refl
+
+  pub two-on : {a b : ℕ} → s .characters ≡ 2 → c .place + 2 ≤ length w → a ≡ digitOf (getD w (c .place) 0) → b ≡ digitOf (getD w (c .place + 1) 0) → a < columns
+      → settledOf c s a b (c .place + 1) ≡ stepOf c s w
+  two-on {a} n l ea eb h = rw (step-two n l ea eb, lt-ltb a columns h) refl
+
+  -- one character, in two columns or in more
+  pub one-quad : {a : ℕ} → s .characters ≡ 1 → c .place + 1 ≤ length w → a ≡ digitOf (getD w (c .place) 0) → columns ≡ 2
+      → settledOf c s (a % 2) (a / 2) (c .place) ≡ stepOf c s w
+  unfolding stepOf
+  one-quad {a} n l ea k =
+      let k2 : columnsOf c s ≡ 2 = sym e ∙ k in
+      rw (child-as, n, one-digit w (c .place) l, ← ea, k2, shift-guard, add-zero) refl
+
+  pub one-trio : {a i j : ℕ} → s .characters ≡ 1 → c .place + 1 ≤ length w → a ≡ digitOf (getD w (c .place) 0) → (columns ≡ 2 → ⊥) → a - 1 ≡ i → min a 1 ≡ j
+      → settledOf c s i j (c .place) ≡ stepOf c s w
+  unfolding stepOf
+  one-trio {a} {i} {j} n l ea k ei ej =
+      let k2 : eqb (columnsOf c s) 2 ≡ false = ne-eqb (columnsOf c s) 2 (λ z. k (e ∙ z)) in
+      rw (child-as, n, one-digit w (c .place) l, ← ea, k2, ei, ej, shift-guard, add-zero) refl

@@ -1,0 +1,51 @@
+-- What the steps of reading a polar code ask of a cursor and of the code, so that no number leaves its type.
+-- Assumes nothing.
+use mathlib.Core.Path.{_≡_}
+use mathlib.Core.Bool.{true, false}
+use mathlib.Core.List.{List}
+use Prim.Native.Nat.{ℕ, _+_, _-_, _≤_, _<_, min}
+use lib.ListN.{length}
+use Rattle.grid.specs.declared.Split.{Split}
+use Rattle.grid.specs.Units.{TURN, HALF, QUARTER}
+use Rattle.grid.specs.Splits.{splitAt}
+use Rattle.polar_read.specs.declared.Cursor.{Cursor}
+use Rattle.polar_read.specs.Reading.{Round, columnsOf, Reached}
+
+-- the code w is as long as one of its level
+pub record OfLevel (level : ℕ) (w : List ℕ) : Type 0 where
+  pub some : 1 ≤ level
+  pub most : level ≤ 10
+  pub long : length w ≡ splitAt (level - 1) .length
+
+-- a good cursor, whose cell lies on the globe
+pub record Room (c : Cursor) (s : Split) : Type 0 where
+  pub good : c .good ≡ true
+  pub near : c .place + s .characters ≤ 20
+  pub wide : c .x + c .w ≤ TURN
+  pub high : c .y + c .h ≤ QUARTER
+  pub round : Round c
+
+-- and it has a child in column i and row j
+pub record ChildRoom (c : Cursor) (s : Split) (columns i j : ℕ) : Type 0 where
+  pub room : Room c s
+  pub counted : columns ≡ columnsOf c s
+  pub column : i < columns
+  pub row : j < s .inward
+
+-- of the code w, as long as one of its level, the levels to k were read; s is the next, of n characters
+pub record Ready (level k : ℕ) (s : Split) (n : ℕ) (w : List ℕ) (c : Cursor) : Type 0 where
+  pub later : 1 ≤ k
+  pub last : k < 10
+  pub long : OfLevel level w
+  pub table : s ≡ splitAt k
+  pub size : s .characters ≡ n
+  pub so-far : Reached (min k level) w c
+
+-- the cursor's cell is not empty and lies in its frame
+pub record Whole (c : Cursor) : Type 0 where
+  pub some-w : 0 < c .w
+  pub some-h : 0 < c .h
+  pub high : c .y + c .h ≤ QUARTER
+  pub in-disc : c .disc ≡ true → c .x + c .w ≤ TURN
+  pub in-belt : c .disc ≡ false → c .x + c .w ≤ HALF
+  pub round : Round c

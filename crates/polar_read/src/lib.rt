@@ -1,0 +1,338 @@
+// Reading a polar plane code (document 01, "The poles") on from its first four characters, N000 or S000.
+// The reading place is a cursor, a value: each level read hands back the next one.
+// What a cursor means, and what was read, stands in specs/Reading.antt; what the steps ask for in specs/Room.antt.
+
+ghost use mathlib.Core.Path.{_≡_};
+ghost use mathlib.Core.Bool.{true};
+ghost use Prim.Native.Nat.{ℕ, _+_, _≤_, _<_, min};
+ghost use lib.ListN.{length};
+ghost use Rattle.grid.specs.Units.{unit};
+ghost use Rattle.grid.specs.Tree.{ok, bad};
+ghost use Rattle.grid.specs.Answers.{planeRead};
+ghost use Rattle.grid.specs.Plane.{pole, allowed, least, longitudeAt, leastFromPole, cellAt, polarNode, restOf};
+ghost use Rattle.polar_read.specs.Reading.{nodeOf, readOf, startOf, Round, HasRead, Moved, Reached, answerOf};
+ghost use Rattle.polar_read.specs.Reading.{columnsOf, inmostOf, divided, childIn, settledOf, stepOf};
+ghost use Rattle.polar_read.specs.Room.{OfLevel, Whole, Room, ChildRoom, Ready};
+use grid::Cell;
+use grid::PlaneRead;
+use grid::Refusal;
+use grid::Split;
+
+// The number on a side of 0 with an outward index.
+fn signed(side: bool, index: u32) -> i32
+    requires { ⌜ index < 2147483648 ⌝ }
+    ensures { λ r. ⌜ r ≡ unit side index ⌝ }
+{
+    if side {
+        index as i32
+    } else {
+        -1 - index as i32
+    }
+}
+
+// The least of the n numbers on a side whose outward indices are from u on.
+fn least_on(side: bool, u: u32, n: u32) -> i32
+    requires { ⌜ (0 < n) × (u + n ≤ 2147483648) ⌝ }
+    ensures { λ r. ⌜ r ≡ least side u n ⌝ }
+{
+    if side {
+        signed(true, u)
+    } else {
+        signed(false, u + n - 1)
+    }
+}
+
+// The longitude e units eastward of 0, in its range.
+fn longitude_at(e: u32) -> i32
+    requires { ⌜ e < 2654208000 ⌝ }
+    ensures { λ r. ⌜ r ≡ longitudeAt e ⌝ }
+{
+    if e < 1327104000 {
+        signed(true, e)
+    } else {
+        signed(false, 2654207999 - e)
+    }
+}
+
+// The least of the n latitudes whose distances from a pole are from q on.
+fn least_from_pole(north: bool, q: u32, n: u32) -> i32
+    requires { ⌜ (0 < n) × (q + n ≤ 663552000) ⌝ }
+    ensures { λ r. ⌜ r ≡ leastFromPole north q n ⌝ }
+{
+    if north {
+        signed(true, 663552000 - (q + n))
+    } else {
+        signed(false, 663551999 - q)
+    }
+}
+
+// The reading place of a polar code, and the cell read so far.
+struct Cursor {
+    // Every character so far was allowed.
+    good: bool,
+    // The place of the next character; once one was not allowed, of that one.
+    place: usize,
+    north: bool,
+    // The cell is a cap: it goes all round the pole.
+    cap: bool,
+    // It lies in the disc, x eastward and y from the pole; else in the belt, x and y outward, on the east or the west side.
+    disc: bool,
+    east: bool,
+    // From x on w wide, from y on h high.
+    x: u32,
+    w: u32,
+    y: u32,
+    h: u32,
+}
+
+impl Cursor {
+    // N000 or S000, seen as a cap of two degrees.
+    fn start(north: bool) -> Cursor
+        ensures { λ r. ⌜ r ≡ startOf north ⌝ }
+    {
+        Cursor {
+            good: true,
+            place: 4,
+            north,
+            cap: true,
+            disc: true,
+            east: true,
+            x: 0,
+            w: 2654208000,
+            y: 0,
+            h: 14745600,
+        }
+    }
+
+    // The character at a place is not allowed.
+    fn stopped(mut self, place: usize) -> Cursor
+        requires { ⌜ Round self ⌝ }
+        ensures { λ r. ⌜ ((at : ℕ) → HasRead (self .north) at (bad place) r) ⌝ }
+    {
+        self.good = false;
+        self.place = place;
+        self
+    }
+
+    // The polar cell k of level 2: 0 is the cap, 1 to 3 lie in the disc, the others in the belt.
+    fn polar(self, k: u32) -> Cursor
+        requires { ⌜ k < 16 ⌝ }
+        ensures { λ r. ⌜ HasRead (self .north) 6 (ok (polarNode (self .north) k)) r ⌝ }
+    {
+        let p = grid::polar_cell(k as usize);
+        let mut next = Cursor::start(self.north);
+        next.place = 6;
+        next.h = 3686400;
+        if k == 0 {
+            return next;
+        }
+        next.cap = false;
+        next.x = p.west;
+        next.y = p.low;
+        if k < 4 {
+            next.w = 884736000;
+            next.y = 663552000 - p.low - 3686400;
+            return next;
+        }
+        next.disc = false;
+        next.w = 442368000;
+        if p.west < 1327104000 {
+            return next;
+        }
+        next.east = false;
+        next.x = 2654208000 - p.west - 442368000;
+        next
+    }
+
+    // Level 2: two digits below 4 name one of the sixteen polar cells.
+    fn second(self, code: &[u8]) -> Cursor
+        requires { ⌜ Round self × (6 ≤ length (now code)) ⌝ }
+        ensures { λ r. ⌜ Reached 2 (now (code .entry)) r × (r .north ≡ self .north) ⌝ }
+    {
+        let a = grid::digit(code[4]);
+        if 4 <= a {
+            return self.stopped(4);
+        }
+        let b = grid::digit(code[5]);
+        if 4 <= b {
+            return self.stopped(5);
+        }
+        self.polar(4 * a + b)
+    }
+
+    // Into how many columns the cell divides.
+    fn columns(self, s: Split) -> u32
+        ensures { λ r. ⌜ r ≡ columnsOf self s ⌝ }
+    {
+        if self.cap { s.ring } else { s.columns }
+    }
+
+    // Row 0 of a cap is the new cap.
+    fn inmost(self, r: u32) -> bool
+        ensures { λ t. ⌜ t ≡ inmostOf self r ⌝ }
+    {
+        if self.cap { r == 0 } else { false }
+    }
+
+    // The cell has a child in column c and row r; the new cap has column 0 only.
+    fn allows(self, s: Split, columns: u32, c: u32, r: u32) -> bool
+        requires { ⌜ columns ≡ columnsOf self s ⌝ }
+        ensures { λ t. ⌜ t ≡ allowed (self .cap) (divided self s) c r ⌝ }
+    {
+        if columns <= c {
+            return false;
+        }
+        if s.inward <= r {
+            return false;
+        }
+        if self.inmost(r) { c == 0 } else { true }
+    }
+
+    // The child in column c and row r.
+    fn child(mut self, s: Split, columns: u32, c: u32, r: u32) -> Cursor
+        requires { ⌜ ChildRoom self s columns c r ⌝ }
+        ensures { λ m. ⌜ Moved self s (ok (childIn self s c r)) m ⌝ }
+    {
+        let inmost = self.inmost(r);
+        self.place = self.place + s.characters;
+        self.h = self.h / s.inward;
+        if inmost {
+            return self;
+        }
+        self.cap = false;
+        self.w = self.w / columns;
+        self.x = self.x + c * self.w;
+        self.y = self.y + r * self.h;
+        self
+    }
+
+    // The child in column c and row r, if there is one; else the character at a place is not allowed.
+    fn settled(self, s: Split, columns: u32, c: u32, r: u32, at: usize) -> Cursor
+        requires { ⌜ Room self s × (columns ≡ columnsOf self s) ⌝ }
+        ensures { λ m. ⌜ Moved self s (settledOf self s c r at) m ⌝ }
+    {
+        if self.allows(s, columns, c, r) {
+            self.child(s, columns, c, r)
+        } else {
+            self.stopped(at)
+        }
+    }
+
+    // A level of two characters: column, then row.
+    fn two(self, s: Split, code: &[u8]) -> Cursor
+        requires { ⌜ Room self s × (s .characters ≡ 2) × (self .place + 2 ≤ length (now code)) ⌝ }
+        ensures { λ m. ⌜ Moved self s (stepOf self s (now (code .entry))) m ⌝ }
+    {
+        let at = self.place;
+        let columns = self.columns(s);
+        let a = grid::digit(code[at]);
+        if columns <= a {
+            return self.stopped(at);
+        }
+        let b = grid::digit(code[at + 1]);
+        self.settled(s, columns, a, b, at + 1)
+    }
+
+    // A level of one character: 2·row + column; in a cap of three columns row + column.
+    fn one(self, s: Split, code: &[u8]) -> Cursor
+        requires { ⌜ Room self s × (s .characters ≡ 1) × (self .place + 1 ≤ length (now code)) ⌝ }
+        ensures { λ m. ⌜ Moved self s (stepOf self s (now (code .entry))) m ⌝ }
+    {
+        let at = self.place;
+        let columns = self.columns(s);
+        let a = grid::digit(code[at]);
+        if columns == 2 {
+            return self.settled(s, columns, a % 2, a / 2, at);
+        }
+        if a == 0 {
+            return self.settled(s, columns, 0, 0, at);
+        }
+        self.settled(s, columns, a - 1, 1, at)
+    }
+
+    // Level k + 1, of two characters, where the code has it.
+    fn pair(self, level: u32, k: u32, s: Split, code: &[u8]) -> Cursor
+        requires { ⌜ Ready level k s 2 (now code) self ⌝ }
+        ensures { λ r. ⌜ Reached (min (k + 1) level) (now (code .entry)) r × (r .north ≡ self .north) ⌝ }
+    {
+        if level <= k {
+            return self;
+        }
+        let good = self.good;
+        if good { self.two(s, code) } else { self }
+    }
+
+    // Level k + 1, of one character, where the code has it.
+    fn single(self, level: u32, k: u32, s: Split, code: &[u8]) -> Cursor
+        requires { ⌜ Ready level k s 1 (now code) self ⌝ }
+        ensures { λ r. ⌜ Reached (min (k + 1) level) (now (code .entry)) r × (r .north ≡ self .north) ⌝ }
+    {
+        if level <= k {
+            return self;
+        }
+        let good = self.good;
+        if good { self.one(s, code) } else { self }
+    }
+
+    // The cell, as a reader hands it back; a cap is a disc cell that goes all round.
+    fn cell(self, level: u32) -> Cell
+        requires { ⌜ Whole self ⌝ }
+        ensures { λ r. ⌜ r ≡ cellAt level (nodeOf self) ⌝ }
+    {
+        if self.disc {
+            return Cell {
+                level,
+                west: longitude_at(self.x),
+                south: least_from_pole(self.north, self.y, self.h),
+                width: self.w,
+                height: self.h,
+            };
+        }
+        Cell {
+            level,
+            west: least_on(self.east, self.x, self.w),
+            south: least_on(self.north, self.y, self.h),
+            width: self.w,
+            height: self.h,
+        }
+    }
+
+    // What a reader of the level answers: the cell, or refusal 7.
+    fn answer(self, level: u32) -> PlaneRead
+        requires { ⌜ (self .good ≡ true → Whole self) ⌝ }
+        ensures { λ r. ⌜ planeRead r ≡ answerOf level (readOf self) ⌝ }
+    {
+        let good = self.good;
+        if good {
+            PlaneRead::Found(self.cell(level))
+        } else {
+            PlaneRead::Refused(Refusal {
+                number: 7,
+                place: self.place,
+                ordinal: 1,
+            })
+        }
+    }
+}
+
+// The rest of a polar plane code, after its first four characters; the level is the one that its length says.
+pub fn rest(level: u32, north: bool, code: &[u8]) -> PlaneRead
+    requires { ⌜ OfLevel level (now code) ⌝ }
+    ensures { λ r. ⌜ planeRead r ≡ restOf level (pole north) (now (code .entry)) ⌝ }
+{
+    let start = Cursor::start(north);
+    if level == 1 {
+        return start.answer(level);
+    }
+    start
+        .second(code)
+        .single(level, 2, grid::split_of(2), code)
+        .pair(level, 3, grid::split_of(3), code)
+        .pair(level, 4, grid::split_of(4), code)
+        .single(level, 5, grid::split_of(5), code)
+        .pair(level, 6, grid::split_of(6), code)
+        .pair(level, 7, grid::split_of(7), code)
+        .pair(level, 8, grid::split_of(8), code)
+        .pair(level, 9, grid::split_of(9), code)
+        .answer(level)
+}

@@ -1,0 +1,139 @@
+//! Before the quick oracle is trusted: it against the lists.
+
+use super::{Family, Kind};
+use crate::checks::{show, Run};
+use hailgully_tests::cases;
+use hailgully_tests::layers::height_cell;
+use hailgully_tests::plane::{self, listing, LENGTHS, POLAR_INDEX};
+use hailgully_tests::reference::{self, OFFSETS};
+use hailgully_tests::space;
+
+pub fn families() -> Vec<Family> {
+    let own = |name, rounds, round| Family {
+        name,
+        kind: Kind::Own(rounds, round),
+    };
+    vec![
+        own("own check: plane codes against the lists", 200_000, planes),
+        own("own check: space codes against the lists", 20_000, spaces),
+        own("own check: reference codes against steps", 40_000, steps),
+    ]
+}
+
+fn somewhere(run: &mut Run) -> (i64, i64) {
+    match run.random.below(3) {
+        0 => cases::ordinary(&mut run.random),
+        1 => cases::polar(&mut run.random),
+        _ => cases::near_edge(&mut run.random),
+    }
+}
+
+/// Tells a difference within the oracle, if `well` is false.
+fn own(run: &mut Run, well: bool, told: impl FnOnce() -> String) {
+    run.tally.own_checks += 1;
+    if !well {
+        run.tally
+            .difference(|| format!("the oracle itself: {}", told()));
+    }
+}
+
+fn planes(run: &mut Run) {
+    let (longitude, latitude) = somewhere(run);
+    let level = run.random.between(1, 10) as usize;
+    let length = LENGTHS[level - 1];
+    let mut code = plane::write::finest(longitude, latitude);
+    let (listed, cell) = listing::code(level, longitude, latitude);
+    own(run, listed == code[..length], || {
+        let (one, other) = (show(&listed), show(&code[..length]));
+        format!("level {level} {longitude} {latitude}: {other}, by the lists {one}")
+    });
+    same_reading(run, &listed, Some(cell));
+    let place = run.random.below(length as u64) as usize;
+    code[place] = cases::other_character(&mut run.random);
+    same_reading(run, &code[..length], None);
+    let (code, length) = cases::walked_code(&mut run.random);
+    same_reading(run, &code[..length], None);
+}
+
+fn same_reading(run: &mut Run, code: &[u8], cell: Option<plane::PlaneCell>) {
+    let (quick, listed) = (plane::read(code), listing::read(code));
+    let well = quick == listed && cell.is_none_or(|cell| quick == Ok(cell));
+    own(run, well, || {
+        let code = show(code);
+        format!("{code}: {quick:?}, by the lists {listed:?}, {cell:?}")
+    });
+}
+
+/// The space code put together from the listed plane code and the listed
+/// height characters: "N or S, the sign, then for each level its plane
+/// characters followed by its height character or characters".
+fn spaces(run: &mut Run) {
+    let (longitude, latitude) = somewhere(run);
+    let layer = cases::layer(&mut run.random);
+    let level = run.random.between(1, 10) as usize;
+    let (flat, cell) = listing::code(level, longitude, latitude);
+    let high = height_cell(level, layer);
+    let heights = high.text.as_bytes();
+    let mut code = vec![flat[0], heights[0]];
+    let (mut seen, mut used) = (1, 1);
+    for (at, &length) in LENGTHS[..level].iter().enumerate() {
+        code.extend_from_slice(&flat[seen..length]);
+        let next = if at == 0 { 3 } else { used + 1 };
+        code.extend_from_slice(&heights[used..next]);
+        (seen, used) = (length, next);
+    }
+    let mut line = [0; 32];
+    let written = space::write(level as i64, longitude, latitude, layer, &mut line, 0);
+    let well = written == Ok(code.len()) && line[..code.len()] == code;
+    own(run, well, || {
+        let (one, other) = (show(&line), show(&code));
+        format!("level {level} {longitude} {latitude} {layer}: {one}, by the lists {other}")
+    });
+    let read = space::read(&code);
+    let well = read.is_ok_and(|read| {
+        read.plane == cell
+            && i64::from(read.floor) == high.floor
+            && i64::from(read.thickness) == high.thickness
+    });
+    own(run, well, || format!("{}: {read:?}", show(&code)));
+}
+
+/// A reference read, done by walking cell by cell: from a square over the
+/// cell's edge to the next cell's square, by the lists.
+fn steps(run: &mut Run) {
+    let (longitude, latitude) = somewhere(run);
+    if plane::outward(latitude) >= POLAR_INDEX {
+        return;
+    }
+    let level = run.random.between(5, 10) as usize;
+    let (base, cell) = listing::code(level, longitude, latitude);
+    let east = run.random.below(15) as usize;
+    let north = run.random.below(15) as usize;
+    let mut code = base.clone();
+    code.extend_from_slice(&[b'-', OFFSETS[east], OFFSETS[north]]);
+    let (mut west, mut south) = (i64::from(cell.west), i64::from(cell.south));
+    for _ in 0..east.abs_diff(7) {
+        let step = if east > 7 { 1 } else { -1 };
+        west = cases::wrap(west + step * i64::from(cell.width));
+    }
+    for _ in 0..north.abs_diff(7) {
+        let step = if north > 7 { 1 } else { -1 };
+        south += step * i64::from(cell.height);
+    }
+    let (target, reached) = listing::code(level, west, south);
+    let mut line = [0; 20];
+    let read = reference::read(&code, &mut line, 0);
+    if plane::polar(&reached) {
+        let well = read.is_err_and(|refusal| refusal.number == 12);
+        return own(run, well, || format!("{}: {read:?}, not 12", show(&code)));
+    }
+    let well = read == Ok(target.len()) && line[..target.len()] == target;
+    own(run, well, || {
+        let (code, one, other) = (show(&code), show(&line), show(&target));
+        format!("{code}: {one}, by steps {other}")
+    });
+    let mut line = [0; 23];
+    let written = reference::write(&base, &target, &mut line, 0);
+    let well = written == Ok(code.len()) && line[..code.len()] == code;
+    own(run, well, || format!("{}: {written:?}", show(&code)));
+}

@@ -1,0 +1,19 @@
+//! The oracle: document 01 written a second time, from the document alone.
+//!
+//! Plane codes stand here twice. `plane::listing` lists every cell that a cell
+//! is divided into, just as the document describes them, and looks for the one
+//! that is meant. `plane::write` and `plane::walk` are quick; each run of
+//! `compare` holds them against the listing before they are trusted.
+
+pub mod arcseconds;
+pub mod cases;
+pub mod layers;
+pub mod lines;
+pub mod plane;
+pub mod reference;
+pub mod refusals;
+pub mod slips;
+pub mod space;
+
+#[cfg(test)]
+mod positions;

@@ -1,0 +1,115 @@
+//! Plane codes: the common numbers, the cell, the whole-code writer and reader.
+
+pub mod listing;
+pub mod walk;
+pub mod write;
+
+use crate::refusals::{bad_character, put, refusal, Refusal};
+use crate::slips;
+
+/// "A unit is 1/2048 arc-second; one degree is 7,372,800 units."
+pub const DEGREE: i64 = 7_372_800;
+pub const TURN: i64 = 360 * DEGREE;
+pub const LONGITUDE: (i64, i64) = (-1_327_104_000, 1_327_103_999);
+pub const LATITUDE: (i64, i64) = (-663_552_000, 663_551_999);
+/// Ordinary "means latitude index below 648,806,400 (88°)".
+pub const POLAR_INDEX: i64 = 648_806_400;
+/// Lengths of the codes of levels 1 to 10.
+pub const LENGTHS: [usize; 10] = [4, 6, 7, 9, 11, 12, 14, 16, 18, 20];
+
+/// "A plane cell is level, west, south, width, height."
+#[derive(Clone, Copy, Debug, PartialEq, Eq)]
+pub struct PlaneCell {
+    pub level: u32,
+    pub west: i32,
+    pub south: i32,
+    pub width: u32,
+    pub height: u32,
+}
+
+pub fn within(number: i64, range: (i64, i64)) -> bool {
+    range.0 <= number && number <= range.1
+}
+
+/// "The outward index of a longitude or latitude u is u where u is 0 or more,
+/// and -1 - u where it is negative."
+pub fn outward(u: i64) -> i64 {
+    if u >= 0 {
+        u
+    } else if slips::on(slips::ABSOLUTE_VALUES) {
+        -u
+    } else {
+        -1 - u
+    }
+}
+
+/// Longitude taken eastward, 0 to 2,654,208,000 less one.
+pub fn eastward(longitude: i64) -> i64 {
+    if longitude < 0 {
+        longitude + TURN
+    } else {
+        longitude
+    }
+}
+
+/// "West lies in the longitude range": the longitude of an eastward number.
+pub fn west_of(eastward: i64) -> i32 {
+    let past = if slips::on(slips::WEST_EDGE_POSITIVE) {
+        eastward > TURN / 2
+    } else {
+        eastward >= TURN / 2
+    };
+    (if past { eastward - TURN } else { eastward }) as i32
+}
+
+/// The level whose codes have this length, if there is one.
+pub fn level_of(length: usize) -> Option<u32> {
+    let at = LENGTHS.iter().position(|&of_level| of_level == length)?;
+    Some(at as u32 + 1)
+}
+
+/// Refusals 1, 2, 3 in their order.
+pub fn refuse_position(level: i64, longitude: i64, latitude: i64) -> Result<(), Refusal> {
+    if !within(level, (1, 10)) {
+        return Err(refusal(1));
+    }
+    if slips::on(slips::LATITUDE_FIRST) && !within(latitude, LATITUDE) {
+        return Err(refusal(3));
+    }
+    if !within(longitude, LONGITUDE) {
+        return Err(refusal(2));
+    }
+    if !within(latitude, LATITUDE) {
+        return Err(refusal(3));
+    }
+    Ok(())
+}
+
+/// Position writer: refusals 1, 2, 3, 5.
+pub fn write(
+    level: i64,
+    longitude: i64,
+    latitude: i64,
+    line: &mut [u8],
+    at: usize,
+) -> Result<usize, Refusal> {
+    refuse_position(level, longitude, latitude)?;
+    let code = write::finest(longitude, latitude);
+    put(&code[..LENGTHS[level as usize - 1]], line, at)
+}
+
+/// Whole-code reader: refusals 6, 7.
+pub fn read(code: &[u8]) -> Result<PlaneCell, Refusal> {
+    if level_of(code.len()).is_none() {
+        return Err(refusal(6));
+    }
+    match walk::whole(code) {
+        Ok(end) => Ok(end.cell()),
+        Err(place) => Err(bad_character(place)),
+    }
+}
+
+/// Whether a cell is in a polar region.
+pub fn polar(cell: &PlaneCell) -> bool {
+    outward(i64::from(cell.south)) >= POLAR_INDEX
+}

@@ -1,0 +1,275 @@
+//! The cases of document 01, "Positions to check", asked of the oracle.
+
+use crate::arcseconds::{arcseconds, over_2048, plane_box};
+use crate::cases::{self, Random};
+use crate::plane::{self, listing, PlaneCell, LENGTHS, TURN};
+use crate::refusals::{refusal, Refusal};
+use crate::{lines, reference, space};
+
+fn plane_code(longitude: i64, latitude: i64, level: i64) -> String {
+    let mut line = [0; 20];
+    let length = plane::write(level, longitude, latitude, &mut line, 0).unwrap();
+    let (listed, cell) = listing::code(level as usize, longitude, latitude);
+    assert_eq!(listed, line[..length]);
+    assert_eq!(plane::read(&line[..length]), Ok(cell));
+    assert_eq!(listing::read(&line[..length]), Ok(cell));
+    String::from_utf8(listed).unwrap()
+}
+
+fn space_code(longitude: i64, latitude: i64, layer: i64, level: i64) -> String {
+    let mut line = [0; 32];
+    let length = space::write(level, longitude, latitude, layer, &mut line, 0).unwrap();
+    String::from_utf8(line[..length].to_vec()).unwrap()
+}
+
+fn target(code: &str) -> String {
+    let mut line = [0; 20];
+    let length = reference::read(code.as_bytes(), &mut line, 0).unwrap();
+    String::from_utf8(line[..length].to_vec()).unwrap()
+}
+
+fn zeros(start: &str) -> String {
+    format!("{start}{}", "0".repeat(16))
+}
+
+#[test]
+fn p1_to_p3() {
+    assert_eq!(plane_code(0, 0, 10), zeros("N31A"));
+    assert_eq!(plane_code(-1, 0, 10), zeros("N30A"));
+    assert_eq!(plane_code(0, -1, 10), zeros("S31A"));
+}
+
+#[test]
+fn p4_to_p6() {
+    assert_eq!(plane_code(857_549_557, 294_861_578, 8), "N50J47539B825534");
+    assert_eq!(plane_code(-44_236_800, 0, 2), "N30AB0");
+    assert_eq!(plane_code(-44_236_801, 0, 2), "N29A00");
+}
+
+#[test]
+fn p7() {
+    assert_eq!(plane_code(0, 648_806_399, 1), "N31V");
+    assert_eq!(plane_code(0, 648_806_400, 1), "N000");
+    assert_eq!(plane_code(0, -648_806_400, 1), "S31V");
+    assert_eq!(plane_code(0, -648_806_401, 1), "S000");
+}
+
+#[test]
+fn p8_to_p10() {
+    assert_eq!(plane_code(-1, 648_806_400, 2), "N00030");
+    assert_eq!(plane_code(884_736_000, 648_806_400, 2), "N00020");
+    assert_eq!(plane_code(-1_327_104_000, 648_806_400, 2), "N00021");
+    assert_eq!(plane_code(0, 656_179_200, 3), "N000012");
+    assert_eq!(plane_code(0, 659_865_600, 3), "N000001");
+    assert_eq!(plane_code(-1, 663_551_999, 10), zeros("N000"));
+}
+
+#[test]
+fn p11_and_p12() {
+    let cell = PlaneCell {
+        level: 10,
+        west: 255_316_321,
+        south: 277_488_284,
+        width: 1,
+        height: 1,
+    };
+    let code = "N36J93078B3101524314";
+    assert_eq!(plane::read(code.as_bytes()), Ok(cell));
+    assert_eq!(plane_code(255_316_321, 277_488_284, 10), code);
+    let tall = "N036J0093000780B3010010520430140";
+    assert_eq!(space_code(255_316_321, 277_488_284, 0, 10), tall);
+    let read = space::read(tall.as_bytes()).unwrap();
+    assert_eq!((read.plane, read.floor, read.thickness), (cell, 0, 1));
+    assert_eq!(space_code(0, 0, -1, 1), "N131A63");
+    assert_eq!(space_code(0, 0, 1_843_199, 4), "N031A000000000E");
+}
+
+#[test]
+fn p13() {
+    assert_eq!(target("N50J475492E-10"), "N50J475493E");
+    assert_eq!(target("N31A0000000-0A"), "S31A0000000");
+    assert_eq!(target("N30A0000000-10"), "N31A0000000");
+}
+
+fn bad(place: u64) -> Refusal {
+    Refusal {
+        place,
+        ..refusal(7)
+    }
+}
+
+#[test]
+fn run_cases() {
+    let past = plane::write(1, 1_327_104_000, 0, &mut [0; 20], 0);
+    assert_eq!(past, Err(refusal(2)));
+    assert_eq!(plane::read(b"N00A"), Err(bad(3)));
+    assert_eq!(plane::read(b"N61A"), Err(bad(2)));
+    assert_eq!(plane::read(b"N70A"), Err(bad(1)));
+    assert_eq!(plane::read(b"N31W"), Err(bad(3)));
+    assert_eq!(plane::read(b""), Err(refusal(6)));
+    // "Row 0 with a column other than 0 gets 7 at the row character."
+    assert_eq!(plane::read(b"N00000010"), Err(bad(8)));
+    assert_eq!(plane::read(b"S00000000001"), Err(bad(11)));
+    assert_eq!(space::read(b"N131A64"), Err(bad(6)));
+    assert_eq!(space::read(b"N131A70"), Err(bad(5)));
+    assert_eq!(space::read(b"N231A00"), Err(bad(1)));
+    let mut line = [7; 30];
+    assert_eq!(reference::read(b"N31A-10", &mut line, 0), Err(refusal(8)));
+    assert_eq!(
+        reference::read(b"N31A0000000-H0", &mut line, 0),
+        Err(bad(12))
+    );
+    assert_eq!(line, [7; 30]);
+}
+
+#[test]
+fn lines_of_the_program() {
+    let output = b"1 0 0 44236800 29491200\nrefused 7 0\nrefused 6 0\n";
+    assert_eq!(lines::answers(b"N31A\nn31A\n\n"), output);
+    assert_eq!(lines::answers(b""), b"");
+    assert_eq!(lines::answers(b"\n"), b"refused 6 0\n");
+    assert_eq!(lines::answers(b"N31A"), &output[..24]);
+    assert_eq!(lines::answers(&[b'N'; 21]), b"refused 6 0\n");
+}
+
+#[test]
+fn readings() {
+    let of = |longitude: f64, latitude: f64| arcseconds(longitude.to_bits(), latitude.to_bits());
+    assert_eq!(of(0.0, -0.0), Ok((0, 0)));
+    assert_eq!(of(-1.0 / 2048.0, -1e-300), Ok((-1, -1)));
+    assert_eq!(of(-1.0 / 2048.0 - 1e-9, 1.0), Ok((-2, 2048)));
+    assert_eq!(
+        of(-648_000.0, -324_000.0),
+        Ok((-1_327_104_000, -663_552_000))
+    );
+    assert_eq!(of(648_000.0, f64::INFINITY), Err(refusal(2)));
+    assert_eq!(of(f64::INFINITY, f64::NAN), Err(refusal(11)));
+    assert_eq!(of(1.0, 324_000.0), Err(refusal(3)));
+    let below = f64::from_bits(648_000f64.to_bits() - 1);
+    assert_eq!(of(below, f64::from_bits(1)), Ok((1_327_103_999, 0)));
+    assert_eq!(of(f64::MAX, f64::MIN), Err(refusal(2)));
+    let zone = plane_box(b"N30A").unwrap().map(f64::from_bits);
+    assert_eq!(zone, [-21_600.0, 0.0, 21_600.0, 14_400.0]);
+    let mut random = Random::new(5);
+    for _ in 0..100_000 {
+        let units = random.between(-TURN / 2, TURN);
+        assert_eq!(f64::from_bits(over_2048(units)), units as f64 / 2048.0);
+        // The floor by the bits against the f64's own floor, which is exact
+        // here: 2048 times a reading only moves its power of two.
+        let reading = f64::from_bits(random.draw());
+        let floor = (reading * 2048.0).floor();
+        let own = of(reading, 0.0).map(|units| f64::from(units.0));
+        if (-1_327_104_000.0..=1_327_103_999.0).contains(&floor) {
+            assert_eq!(own, Ok(floor), "{reading:e}");
+        } else {
+            assert!(own.is_err(), "{reading:e}");
+        }
+    }
+}
+
+/// The lists divide: the cells of a list do not overlap and fill the cell.
+#[test]
+fn lists_divide() {
+    let area = |cell: &listing::Listed| i128::from(cell.width) * i128::from(cell.height);
+    let first = listing::first_level();
+    assert_eq!(first.len(), 2 * (1 + 60 * 22));
+    assert_eq!(
+        first.iter().map(area).sum::<i128>(),
+        i128::from(TURN) * i128::from(TURN / 2)
+    );
+    let mut random = Random::new(7);
+    for round in 0..300 {
+        let mut at = match round % 3 {
+            0 => first[0],
+            1 => first[1321],
+            _ => random.pick(first),
+        };
+        while at.level < 10 {
+            let list = listing::children(&at);
+            assert_eq!(list.iter().map(area).sum::<i128>(), area(&at));
+            for (place, one) in list.iter().enumerate() {
+                for other in &list[..place] {
+                    assert_ne!(one.text(), other.text());
+                    let apart = one.west + one.width <= other.west
+                        || other.west + other.width <= one.west
+                        || one.south + one.height <= other.south
+                        || other.south + other.height <= one.south;
+                    assert!(apart);
+                }
+            }
+            at = if random.one_in(2) {
+                list[list.len() / 2]
+            } else {
+                random.pick(&list)
+            };
+            let cap = list.iter().find(|cell| cell.region == listing::Region::Cap);
+            if let (Some(cap), true) = (cap, random.one_in(2)) {
+                at = *cap;
+            }
+        }
+    }
+}
+
+/// The quick oracle against the lists.
+#[test]
+fn quick_is_listing() {
+    let mut random = Random::new(11);
+    for round in 0..20_000 {
+        let (longitude, latitude) = match round % 3 {
+            0 => cases::ordinary(&mut random),
+            1 => cases::polar(&mut random),
+            _ => cases::near_edge(&mut random),
+        };
+        let level = random.between(1, 10);
+        let mut code = plane_code(longitude, latitude, level).into_bytes();
+        let place = random.below(code.len() as u64) as usize;
+        code[place] = cases::other_character(&mut random);
+        assert_eq!(plane::read(&code), listing::read(&code));
+        let code = cases::listed_code(&mut random, level as usize);
+        assert_eq!(plane::read(&code), listing::read(&code));
+        assert!(LENGTHS.contains(&code.len()));
+    }
+}
+
+/// What the space writer writes lies in the cell that the reader reads.
+#[test]
+fn space_round_trip() {
+    let mut random = Random::new(13);
+    for _ in 0..50_000 {
+        let (longitude, latitude) = cases::near_edge(&mut random);
+        let layer = cases::layer(&mut random);
+        let level = random.between(1, 10);
+        let code = space_code(longitude, latitude, layer, level);
+        let cell = space::read(code.as_bytes()).unwrap();
+        let floor = i64::from(cell.floor);
+        assert!(floor <= layer && layer < floor + i64::from(cell.thickness));
+        assert_eq!(floor.rem_euclid(i64::from(cell.thickness)), 0);
+        assert_eq!(
+            cell.plane,
+            listing::code(level as usize, longitude, latitude).1
+        );
+    }
+}
+
+/// Each offset written is read back as the same target.
+#[test]
+fn reference_round_trip() {
+    let mut random = Random::new(17);
+    for _ in 0..20_000 {
+        let (longitude, latitude) = cases::ordinary(&mut random);
+        let level = random.between(5, 10);
+        let base = plane_code(longitude, latitude, level);
+        let cell = plane::read(base.as_bytes()).unwrap();
+        let east = random.between(-7, 7);
+        let north = random.between(-7, 7);
+        let there = cases::wrap(longitude + east * i64::from(cell.width));
+        let up = latitude + north * i64::from(cell.height);
+        if plane::outward(up) >= plane::POLAR_INDEX {
+            continue;
+        }
+        let goal = plane_code(there, up, level);
+        let mut line = [0; 23];
+        let length = reference::write(base.as_bytes(), goal.as_bytes(), &mut line, 0).unwrap();
+        assert_eq!(target(std::str::from_utf8(&line[..length]).unwrap()), goal);
+    }
+}
