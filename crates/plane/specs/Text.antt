@@ -54,6 +54,12 @@ abbrev pub Fitting : Asked → Type 0
 Fitting (At l p) = (1 ≤ l) × (l ≤ 10) × (p .x < HALF) × (p .y < QUARTER)
 Fitting (Refused r) = Unit {0}
 
+-- the level and the square are those that were asked for
+abbrev pub Same : ℤ → ℤ → ℤ → Asked → Type 0
+Same level longitude latitude (At l p) =
+    (l ≡ levelNumber level) × (squareOf p ≡ record { longitude = longitude; latitude = latitude })
+Same level longitude latitude (Refused r) = Unit {0}
+
 abbrev pub orZero : Option ℕ → ℕ
 orZero none = 0
 orZero (some l) = l

@@ -10,7 +10,7 @@ ghost use Rattle.grid.specs.Characters.{digitOf};
 ghost use Rattle.grid.specs.Answers.{refusal, planeRead};
 ghost use Rattle.grid.specs.Laying.{text, laid, written};
 ghost use Rattle.grid.specs.Plane.{codeOf, cellOf, globeChild};
-ghost use Rattle.plane.specs.Text.{planeText, levelNumber, levelOf, askedText, Fitting, Placed, Writable};
+ghost use Rattle.plane.specs.Text.{planeText, levelNumber, levelOf, askedText, Fitting, Same, Placed, Writable};
 ghost use Rattle.plane.specs.Start.{firstRead, Ranged, letteredRead, zonedRead};
 ghost use mathlib.Core.List.{map};
 use grid::Place;
@@ -190,7 +190,7 @@ pub fn level_in(level: i64) -> u32
 
 // Refusals 1, 2 and 3, else the level and the place.
 pub fn ask(level: i64, longitude: i64, latitude: i64) -> Asked
-    ensures { λ r. ⌜ (askedText r ≡ planeText level longitude latitude) × Fitting r ⌝ }
+    ensures { λ r. ⌜ (askedText r ≡ planeText level longitude latitude) × Fitting r × Same level longitude latitude r ⌝ }
 {
     let l = level_in(level);
     if l == 0 {

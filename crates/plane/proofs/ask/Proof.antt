@@ -18,7 +18,7 @@ refuse-requires : tie.Need-refuse-requires
 refuse-requires c κs = search needs
 
 returns : tie.Need-returns
-returns c = (ap laying.refuse (c .refuse .ensures) ∙ asked-level _ _ _ (c .before .before .level-in .ensures ∙ ap levelNumber (toZ-ofZ (c .before .before .before .fits .level))) (c .before .if1 .taken), tt)
+returns c = (ap laying.refuse (c .refuse .ensures) ∙ asked-level _ _ _ (c .before .before .level-in .ensures ∙ ap levelNumber (toZ-ofZ (c .before .before .before .fits .level))) (c .before .if1 .taken), tt, tt)
 
 outward-requires : tie.Need-outward-requires
 outward-requires c κs = search needs
@@ -27,7 +27,7 @@ refuse-requires-2 : tie.Need-refuse-requires-2
 refuse-requires-2 c κs = search needs
 
 returns-2 : tie.Need-returns-2
-returns-2 c = (ap laying.refuse (c .refuse2 .ensures) ∙ asked-longitude _ _ _ (c .before .before .before .before .level-in .ensures ∙ ap levelNumber (toZ-ofZ (c .before .before .before .before .before .fits .level))) (c .before .before .before .if1 .left) (c .before .before .outward .ensures ∙ ap index (toZ-ofZ (c .before .before .before .before .before .fits .longitude))) (c .before .if2 .taken), tt)
+returns-2 c = (ap laying.refuse (c .refuse2 .ensures) ∙ asked-longitude _ _ _ (c .before .before .before .before .level-in .ensures ∙ ap levelNumber (toZ-ofZ (c .before .before .before .before .before .fits .level))) (c .before .before .before .if1 .left) (c .before .before .outward .ensures ∙ ap index (toZ-ofZ (c .before .before .before .before .before .fits .longitude))) (c .before .if2 .taken), tt, tt)
 
 outward-requires-2 : tie.Need-outward-requires-2
 outward-requires-2 c κs = search needs
@@ -36,7 +36,7 @@ refuse-requires-3 : tie.Need-refuse-requires-3
 refuse-requires-3 c κs = search needs
 
 returns-3 : tie.Need-returns-3
-returns-3 c = (ap laying.refuse (c .refuse3 .ensures) ∙ asked-latitude _ _ _ (c .before .before .before .before .before .before .level-in .ensures ∙ ap levelNumber (toZ-ofZ (c .before .before .before .before .before .before .before .fits .level))) (c .before .before .before .before .before .if1 .left) (c .before .before .before .before .outward .ensures ∙ ap index (toZ-ofZ (c .before .before .before .before .before .before .before .fits .longitude))) (c .before .before .before .if2 .left) (c .before .before .outward2 .ensures ∙ ap index (toZ-ofZ (c .before .before .before .before .before .before .before .fits .latitude))) (c .before .if3 .taken), tt)
+returns-3 c = (ap laying.refuse (c .refuse3 .ensures) ∙ asked-latitude _ _ _ (c .before .before .before .before .before .before .level-in .ensures ∙ ap levelNumber (toZ-ofZ (c .before .before .before .before .before .before .before .fits .level))) (c .before .before .before .before .before .if1 .left) (c .before .before .before .before .outward .ensures ∙ ap index (toZ-ofZ (c .before .before .before .before .before .before .before .fits .longitude))) (c .before .before .before .if2 .left) (c .before .before .outward2 .ensures ∙ ap index (toZ-ofZ (c .before .before .before .before .before .before .before .fits .latitude))) (c .before .if3 .taken), tt, tt)
 
 placed-requires : tie.Need-placed-requires
 placed-requires c κs = (c .before .before .before .outward .ensures, c .before .outward2 .ensures, c .before .before .if2 .left, c .if3 .left)
@@ -48,7 +48,7 @@ returns-4 c =
     let e : c .before .before .before .before .before .before .level-in .result ≡ levelNumber (s .args .level) = (c .before .before .before .before .before .before .level-in .ensures ∙ ap levelNumber (toZ-ofZ (c .before .before .before .before .before .before .before .fits .level))) in
     let m : levelNumber (s .args .level) ≤ 10 = level-most (s .args .level) in
     let n : c .before .before .before .before .before .before .level-in .result ≡ 0 → ⊥ = c .before .before .before .before .before .if1 .left in
-    (asked-at _ _ _ e n (c .before .before .before .before .outward .ensures ∙ ap index (toZ-ofZ (c .before .before .before .before .before .before .before .fits .longitude))) (c .before .before .before .if2 .left) (c .before .before .outward2 .ensures ∙ ap index (toZ-ofZ (c .before .before .before .before .before .before .before .fits .latitude))) (c .before .if3 .left) q, (omega (arith, n), omega (arith, e, m), q .wide, q .high))
+    (asked-at _ _ _ e n (c .before .before .before .before .outward .ensures ∙ ap index (toZ-ofZ (c .before .before .before .before .before .before .before .fits .longitude))) (c .before .before .before .if2 .left) (c .before .before .outward2 .ensures ∙ ap index (toZ-ofZ (c .before .before .before .before .before .before .before .fits .latitude))) (c .before .if3 .left) q, (omega (arith, n), omega (arith, e, m), q .wide, q .high), (e, q .same))
 
 pub ask-spec : {M : Type 1} → statement M
 ask-spec =

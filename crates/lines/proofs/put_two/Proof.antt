@@ -1,0 +1,22 @@
+-- `lines::put_two` meets its contract. Assumes nothing.
+use borrow.Author.Needs.{needs}
+use Rattle.lines.proofs.Laying.{laid-then, laid-room, number-length}
+use Rattle.lines.proofs.put_two.Statement.{statement}
+use Rattle.lines.proofs.put_two.Tie as tie
+
+put-number-requires : tie.Need-put-number-requires
+put-number-requires c κs = search needs
+
+put-number-requires-2 : tie.Need-put-number-requires-2
+put-number-requires-2 c κs =
+    let s = c .before .before .before .before .before .before in
+    laid-room (c .before .before .before .put-number .ensures) 21 21 (number-length (s .args .a) 32) (s .pre)
+
+same-length : tie.Need-same-length
+same-length c = search needs
+
+returns : tie.Need-returns
+returns c = laid-then (c .before .before .before .before .before .before .put-number .ensures) (c .before .before .put-number2 .ensures)
+
+pub put-two-spec : {M : Type 1} → statement M
+put-two-spec = tie.close (tie.spec put-number-requires put-number-requires-2 same-length returns)

@@ -1,0 +1,23 @@
+-- A run of the program, whatever pieces its input comes in and however much the output takes at a time.
+-- Assumes nothing.
+use mathlib.Core.List.{List, [], _++_}
+use Prim.Native.Nat.{ℕ}
+use lib.ListN.{take, drop}
+use Rattle.lines.specs.Lines.{linesText, lastLine}
+use Rattle.lines.specs.Filling.{Work, start, lineIn, fill}
+
+-- what is printed at the input's end
+abbrev pub finishText : Work → List ℕ
+finishText w = linesText (lastLine (lineIn w))
+
+-- what was filled is written: the output begins anew, and the bytes that were not used yet come again
+abbrev pub emptied : Work → Work
+emptied w = start (w .marked .held) (w .line) (w .out)
+
+-- from a state, the input that is still to come makes the program print the output:
+-- a piece of the input is filled in as far as there is room, and what was filled is printed; or the input has ended
+pub data Run : Work → List ℕ → List ℕ → Type 0 where
+  ended : {w : Work} → Run w [] (finishText w)
+  more : {w : Work} (piece rest : List ℕ) {output : List ℕ}
+      → Run (emptied (fill w piece)) (drop (fill w piece .marked .next) piece ++ rest) output
+      → Run w (piece ++ rest) (take (fill w piece .marked .at) (fill w piece .out) ++ output)

@@ -1,0 +1,7 @@
+pub mod Numbers
+pub mod Ordinary
+pub mod Corners
+pub mod Theorems
+pub mod Parts
+pub mod Lines
+pub mod Cases

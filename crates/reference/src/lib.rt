@@ -1,0 +1,397 @@
+// One-step reference codes (document 01, "Reference codes"): a plane code, a hyphen, M cells east and N cells north.
+// The writer finds M and N between two cells, the reader moves a cell by them; both count round a full turn, east and north alike.
+
+ghost use mathlib.Core.Path.{_≡_};
+ghost use mathlib.Core.Bool.{true, _&&_};
+ghost use mathlib.Core.List.{List};
+ghost use Prim.Native.Nat.{ℕ, _+_, _%_, _≤_, _<_};
+ghost use lib.ListN.{length};
+ghost use lib.Seq.{sets};
+ghost use Rattle.grid.specs.Units.{TURN, index, squareOf};
+ghost use Rattle.grid.specs.Cells.{around};
+ghost use Rattle.grid.specs.Answers.{accepted, wrongCharacter, planeRead};
+ghost use Rattle.grid.specs.Laying.{text, laid, written};
+ghost use Rattle.grid.specs.Plane.{longitudeAt};
+ghost use Rattle.plane.specs.Text.{askedText, Fitting};
+ghost use Rattle.reference.specs.Offsets.{offsetDigit, movedTo, between, spanIn, spanOf};
+ghost use Rattle.reference.specs.Text.{fit, referenceCode, ofSecond, spelled, spanned, related, referenceText, targetSquare, targetOf, aimed, targetText};
+ghost use Rattle.reference.specs.Parts.{offsetText, Small, Known, Reading, Steps};
+use grid::Cell;
+use grid::Place;
+use grid::PlaneRead;
+use grid::Refusal;
+use grid::Written;
+use plane::Asked;
+
+// In units: a full turn, the last remainder by it, half a turn, and 88°, where the ordinary cells end.
+const TURN: u32 = 2654208000;
+
+const LAST: u32 = 2654207999;
+
+const HALF: u32 = 1327104000;
+
+const POLAR: u32 = 648806400;
+
+// M and N as digits, or why there are none.
+pub enum Offset {
+    By(u32, u32),
+    Refused(Refusal),
+}
+
+// ---- longitudes and latitudes
+
+// The outward index of a longitude or latitude.
+fn outward(z: i32) -> u32
+    ensures { λ r. ⌜ r ≡ index z ⌝ }
+{
+    if z < 0 { (-1 - z) as u32 } else { z as u32 }
+}
+
+// Its remainder by a full turn.
+fn remainder(z: i32) -> u32
+    ensures { λ r. ⌜ r ≡ around z ⌝ }
+{
+    if z < 0 { LAST - outward(z) } else { outward(z) }
+}
+
+// A base or a target: level 5 or finer, and ordinary.
+fn fits(c: Cell) -> bool
+    ensures { λ r. ⌜ r ≡ fit c ⌝ }
+{
+    if c.level < 5 {
+        return false;
+    }
+    outward(c.south) < POLAR
+}
+
+// Both of them.
+fn both_fit(b: Cell, t: Cell) -> bool
+    ensures { λ r. ⌜ r ≡ (fit b && fit t) ⌝ }
+{
+    if fits(b) { fits(t) } else { false }
+}
+
+// ---- M and N
+
+// The units from one number to another, eastward or northward.
+fn apart(a: i32, b: i32) -> u32
+    ensures { λ r. ⌜ (r ≡ between a b) × (r < TURN) ⌝ }
+{
+    let x = remainder(a);
+    let y = remainder(b);
+    if x <= y { y - x } else { y + (TURN - x) }
+}
+
+// So many units as cells onward, or else as cells back.
+fn cells(size: u32, d: u32) -> u32
+    requires { ⌜ (0 < size) × (d < TURN) ⌝ }
+    ensures { λ r. ⌜ r ≡ spanIn size d ⌝ }
+{
+    let k = d / size;
+    if k < 8 {
+        return k;
+    }
+    9 + (TURN - d) / size
+}
+
+// The digit that leads from one number to another.
+fn span(size: u32, a: i32, b: i32) -> u32
+    requires { ⌜ 0 < size ⌝ }
+    ensures { λ r. ⌜ r ≡ spanOf size a b ⌝ }
+{
+    cells(size, apart(a, b))
+}
+
+// Refusal 10, else M and N.
+fn offset_of(b: Cell, t: Cell) -> Offset
+    requires { ⌜ (0 < b .width) × (0 < b .height) ⌝ }
+    ensures { λ r. ⌜ ((w : List ℕ) → offsetText r w ≡ spelled w b t) × Small r ⌝ }
+{
+    let m = span(b.width, b.west, t.west);
+    if 16 < m {
+        return Offset::Refused(plane::refuse(10));
+    }
+    let n = span(b.height, b.south, t.south);
+    if 16 < n {
+        return Offset::Refused(plane::refuse(10));
+    }
+    Offset::By(m, n)
+}
+
+// Refusals 8 and 9, else what lies between the two.
+fn spans(b: Cell, t: Cell) -> Offset
+    requires { ⌜ Known b ⌝ }
+    ensures { λ r. ⌜ ((w : List ℕ) → offsetText r w ≡ spanned w b t) × Small r ⌝ }
+{
+    if both_fit(b, t) {
+        if b.level == t.level {
+            return offset_of(b, t);
+        }
+        return Offset::Refused(plane::refuse(9));
+    }
+    Offset::Refused(plane::refuse(8))
+}
+
+// The same refusal, about the second code.
+fn second(r: Refusal) -> Refusal
+    ensures { λ q. ⌜ q ≡ ofSecond r ⌝ }
+{
+    Refusal {
+        number: r.number,
+        place: r.place,
+        ordinal: 2,
+    }
+}
+
+// The target's 6 or 7, else what lies between the two.
+fn spans_to(b: Cell, t: PlaneRead) -> Offset
+    requires { ⌜ Known b ⌝ }
+    ensures { λ r. ⌜ ((w : List ℕ) → offsetText r w ≡ related w (accepted b) (planeRead t)) × Small r ⌝ }
+{
+    match t {
+        PlaneRead::Found(c) => spans(b, c),
+        PlaneRead::Refused(r) => Offset::Refused(second(r)),
+    }
+}
+
+// The base's 6 or 7, then the target's, else what lies between the two.
+fn relate(b: PlaneRead, t: PlaneRead) -> Offset
+    requires { ⌜ Reading b ⌝ }
+    ensures { λ r. ⌜ ((w : List ℕ) → offsetText r w ≡ related w (planeRead b) (planeRead t)) × Small r ⌝ }
+{
+    match b {
+        PlaneRead::Found(c) => spans_to(c, t),
+        PlaneRead::Refused(r) => Offset::Refused(r),
+    }
+}
+
+// ---- the cell that M and N lead to
+
+// An offset's character: 0 to 7, or A to G.
+fn is_offset(v: u32) -> bool
+    ensures { λ r. ⌜ r ≡ offsetDigit v ⌝ }
+{
+    if v < 8 {
+        return true;
+    }
+    if v < 10 {
+        return false;
+    }
+    v <= 16
+}
+
+// d units on from a, round a turn.
+fn on(a: u32, d: u32) -> u32
+    requires { ⌜ (a < TURN) × (d < TURN) ⌝ }
+    ensures { λ r. ⌜ (r ≡ (a + d) % TURN) × (r < TURN) ⌝ }
+{
+    let left = TURN - a;
+    if d < left { a + d } else { d - left }
+}
+
+// A number moved by an offset's digit, as its remainder by a turn.
+fn moved_to(size: u32, v: u32, z: i32) -> u32
+    requires { ⌜ (0 < size) × (size ≤ 8192) × (offsetDigit v ≡ true) ⌝ }
+    ensures { λ r. ⌜ (r ≡ movedTo size v z) × (r < TURN) ⌝ }
+{
+    let a = remainder(z);
+    if v < 8 {
+        return on(a, v * size);
+    }
+    on(a, TURN - (v - 9) * size)
+}
+
+// The outward index of the number with a remainder.
+fn index_at(e: u32) -> u32
+    requires { ⌜ e < TURN ⌝ }
+    ensures { λ r. ⌜ r ≡ index (longitudeAt e) ⌝ }
+{
+    if e < HALF { e } else { LAST - e }
+}
+
+// The place of two remainders.
+fn placed(e: u32, n: u32) -> Place
+    requires { ⌜ (e < TURN) × (n < TURN) ⌝ }
+    ensures { λ r. ⌜ squareOf r ≡ record { longitude = longitudeAt e; latitude = longitudeAt n } ⌝ }
+{
+    Place {
+        east: e < HALF,
+        north: n < HALF,
+        x: index_at(e),
+        y: index_at(n),
+    }
+}
+
+// The place of the target's corner.
+fn landed(b: Cell, m: u32, n: u32) -> Place
+    requires { ⌜ Steps b × (offsetDigit m ≡ true) × (offsetDigit n ≡ true) ⌝ }
+    ensures { λ r. ⌜ squareOf r ≡ targetSquare b m n ⌝ }
+{
+    placed(moved_to(b.width, m, b.west), moved_to(b.height, n, b.south))
+}
+
+// Refusals 8 and 12, else the target's level and place.
+fn target_of(b: Cell, m: u32, n: u32) -> Asked
+    requires { ⌜ Known b × (offsetDigit m ≡ true) × (offsetDigit n ≡ true) ⌝ }
+    ensures { λ r. ⌜ (askedText r ≡ targetOf b m n) × Fitting r ⌝ }
+{
+    if fits(b) {
+        let p = landed(b, m, n);
+        if p.y < POLAR {
+            return Asked::At(b.level, p);
+        }
+        return Asked::Refused(plane::refuse(12));
+    }
+    Asked::Refused(plane::refuse(8))
+}
+
+// The character at a place is not allowed there.
+fn wrong(place: usize) -> Refusal
+    ensures { λ r. ⌜ r ≡ wrongCharacter place ⌝ }
+{
+    Refusal {
+        number: 7,
+        place: place,
+        ordinal: 1,
+    }
+}
+
+// The hyphen at place k, M and N: refusal 7, else what they lead to.
+fn offset_from(b: Cell, k: usize, h: u8, m: u8, n: u8) -> Asked
+    requires { ⌜ Known b × (k < 18446744073709551613) ⌝ }
+    ensures { λ r. ⌜ (askedText r ≡ aimed k h m n (accepted b)) × Fitting r ⌝ }
+{
+    let u = grid::digit(m);
+    let v = grid::digit(n);
+    if h != b'-' {
+        return Asked::Refused(wrong(k));
+    }
+    if is_offset(u) {
+        if is_offset(v) {
+            return target_of(b, u, v);
+        }
+        return Asked::Refused(wrong(k + 2));
+    }
+    Asked::Refused(wrong(k + 1))
+}
+
+// The base's 6 or 7, else what follows it.
+fn aim(base: PlaneRead, k: usize, h: u8, m: u8, n: u8) -> Asked
+    requires { ⌜ Reading base × (k < 18446744073709551613) ⌝ }
+    ensures { λ r. ⌜ (askedText r ≡ aimed k h m n (planeRead base)) × Fitting r ⌝ }
+{
+    match base {
+        PlaneRead::Found(c) => offset_from(c, k, h, m, n),
+        PlaneRead::Refused(r) => Asked::Refused(r),
+    }
+}
+
+// ---- the line
+
+// The base's bytes, from the line's first byte on.
+fn copy(base: &[u8], line: &mut [u8])
+    requires { ⌜ length (now base) ≤ length (now line) ⌝ }
+    ensures { λ _. ⌜ now (line .exit) ≡ sets (now (line .entry)) 0 (now (base .entry)) ⌝ }
+{
+    let mut i = 0;
+    while i < base.len() {
+        line[i] = base[i];
+        i += 1;
+    }
+}
+
+// The reference code, from the line's first byte on.
+fn put(base: &[u8], m: u32, n: u32, line: &mut [u8])
+    requires { ⌜ (m ≤ 16) × (n ≤ 16) × (length (now base) + 3 ≤ length (now line)) ⌝ }
+    ensures { λ _. ⌜ now (line .exit) ≡ sets (now (line .entry)) 0 (referenceCode (now (base .entry)) m n) ⌝ }
+{
+    copy(base, line);
+    let k = base.len();
+    line[k] = b'-';
+    line[k + 1] = grid::character(m);
+    line[k + 2] = grid::character(n);
+}
+
+// The reference code laid into the line from `at` on: refusal 5, else the number of bytes.
+fn lay(base: &[u8], m: u32, n: u32, line: &mut [u8], at: usize) -> Written
+    requires { ⌜ (m ≤ 16) × (n ≤ 16) ⌝ }
+    ensures { λ r. ⌜ (written r, now (line .exit)) ≡ laid (text (referenceCode (now (base .entry)) m n)) (now (line .entry)) at ⌝ }
+{
+    if line.len() < at {
+        return Written::Refused(plane::refuse(5));
+    }
+    let k = base.len();
+    let room = line.len() - at;
+    if room < 3 {
+        return Written::Refused(plane::refuse(5));
+    }
+    if room - 3 < k {
+        return Written::Refused(plane::refuse(5));
+    }
+    put(base, m, n, &mut line[at..]);
+    Written::Bytes(k + 3)
+}
+
+// A refusal, or the reference code.
+fn lay_offset(o: Offset, base: &[u8], line: &mut [u8], at: usize) -> Written
+    requires { ⌜ Small o ⌝ }
+    ensures { λ r. ⌜ (written r, now (line .exit)) ≡ laid (offsetText o (now (base .entry))) (now (line .entry)) at ⌝ }
+{
+    match o {
+        Offset::By(m, n) => lay(base, m, n, line, at),
+        Offset::Refused(r) => Written::Refused(r),
+    }
+}
+
+// A refusal, or the target's plane code.
+fn lay_target(a: Asked, line: &mut [u8], at: usize) -> Written
+    requires { ⌜ Fitting a ⌝ }
+    ensures { λ r. ⌜ (written r, now (line .exit)) ≡ laid (askedText a) (now (line .entry)) at ⌝ }
+{
+    match a {
+        Asked::At(l, p) => plane::lay(l, p, line, at),
+        Asked::Refused(r) => Written::Refused(r),
+    }
+}
+
+// ---- the two calls
+
+// What leads from the base's code to the target's: refusals 6, 7 of the base; 6, 7 of the target, with ordinal 2; 8, 9, 10; else M and N.
+fn offset_to(base: &[u8], target: &[u8]) -> Offset
+    ensures { λ r. ⌜ (offsetText r (now (base .entry)) ≡ referenceText (now (base .entry)) (now (target .entry))) × Small r ⌝ }
+{
+    let b = plane::read(base);
+    let t = plane::read(target);
+    relate(b, t)
+}
+
+// The reference code that leads from the base's plane code to the target's, written into the line from `at` on.
+// Refusals, in this order: 6, 7 of the base; 6, 7 of the target, with ordinal 2; 8, 9, 10, 5. A refusal changes no byte.
+pub fn write(base: &[u8], target: &[u8], line: &mut [u8], at: usize) -> Written
+    ensures { λ r. ⌜ (written r, now (line .exit)) ≡ laid (referenceText (now (base .entry)) (now (target .entry))) (now (line .entry)) at ⌝ }
+{
+    let o = offset_to(base, target);
+    lay_offset(o, base, line, at)
+}
+
+// Where a reference code leads: refusals 6, 7, 8, 12; else the target's level and place.
+fn goal(code: &[u8]) -> Asked
+    ensures { λ r. ⌜ (askedText r ≡ targetText (now (code .entry))) × Fitting r ⌝ }
+{
+    let n = code.len();
+    if n < 3 {
+        return Asked::Refused(plane::refuse(6));
+    }
+    let k = n - 3;
+    let base = plane::read(&code[..k]);
+    aim(base, k, code[k], code[k + 1], code[k + 2])
+}
+
+// The plane code that a reference code leads to, written into the line from `at` on.
+// Refusals, in this order: 6, 7, 8, 12, 5. A refusal changes no byte.
+pub fn read(code: &[u8], line: &mut [u8], at: usize) -> Written
+    ensures { λ r. ⌜ (written r, now (line .exit)) ≡ laid (targetText (now (code .entry))) (now (line .entry)) at ⌝ }
+{
+    let a = goal(code);
+    lay_target(a, line, at)
+}

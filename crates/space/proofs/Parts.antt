@@ -1,0 +1,144 @@
+-- A space code's levels, seen as strands of plane characters and height characters. What is needed of all ten is tested by computing.
+-- Assumes nothing.
+use mathlib.Core.Path.{_≡_, refl, sym, _∙_, ap, subst}
+use mathlib.Core.Bool.{Bool, true, false, cond, _&&_}
+use mathlib.Core.List.{List, [], _∷_, _++_, map}
+use Prim.Native.Nat.{ℕ, zero, suc, _+_, _-_, _≤_, _<_}
+use native.Mathlib.Omega.{arith}
+use lib.Dec.{eqb, ltb, leb}
+use lib.ListN.{length, take, drop, getD, length-take}
+use lib.Seq.{ext-getD, getD-take, length-take-le}
+use borrow.Author.Tests.{eqb-true, leb-true, lt-ltb}
+use Rattle.grid.specs.declared.Split.{Split}
+use Rattle.grid.specs.Units.{Cube, OnGrid}
+use Rattle.grid.specs.Tree.{Tree}
+use Rattle.grid.specs.Splits.{splits, splitAt}
+use Rattle.grid.specs.Plane.{plane, globe, planeCodes}
+use Rattle.grid.specs.Layers.{radices, product, all, Radix, layers}
+use Rattle.grid.specs.Both.{Pair, both}
+use Rattle.grid.specs.Space.{space, spaceLevels, spaceCodes, spaceLengths}
+use Rattle.grid.proofs.Cut.{and-true, below}
+use Rattle.grid.proofs.Laws.{Laws, total}
+use Rattle.grid.proofs.PlaneLaws.{laws}
+use Rattle.grid.proofs.LayerLaws.{layer-laws}
+use Rattle.grid.proofs.BothLaws.{ones, twos, InBoth, GoodBoth}
+use Rattle.grid.proofs.Theorems.{radices-sound, space-sound}
+use Rattle.layers.specs.Heights.{heightLevels}
+use Rattle.space.specs.Weave.{Strand, both-of, parts, placeIn, firsts, seconds, placeOne, placeTwo}
+use Rattle.space.specs.Space.{tenStrands, countFrom, planePart, heightPart, planePlace, heightPlace}
+use Rattle.space.proofs.Weaving.{strands, each-some, counted, Sliced, sliced-one, sliced-two, parts-length, part-digit, place-fewer}
+use Rattle.space.proofs.Tables.{given-at, given-length}
+
+abbrev pub top : ℕ
+top = product radices
+
+abbrev pub levels : List (Pair plane (layers top))
+levels = spaceLevels top splits radices
+
+-- ---- fewer levels
+
+ones-take : (l : ℕ) (ts : List (Pair plane (layers top))) → ones plane (layers top) (take l ts) ≡ take l (ones plane (layers top) ts)
+ones-take zero ts = refl
+ones-take (suc l) [] = refl
+ones-take (suc l) (t ∷ ts) = ap (λ x. t .one ∷ x) (ones-take l ts)
+
+twos-take : (l : ℕ) (ts : List (Pair plane (layers top))) → twos plane (layers top) (take l ts) ≡ take l (twos plane (layers top) ts)
+twos-take zero ts = refl
+twos-take (suc l) [] = refl
+twos-take (suc l) (t ∷ ts) = ap (λ x. t .two ∷ x) (twos-take l ts)
+
+strands-take : (l : ℕ) (ts : List (Pair plane (layers top))) → strands plane (layers top) (take l ts) ≡ take l (strands plane (layers top) ts)
+unfolding strands
+strands-take zero ts = refl
+strands-take (suc l) [] = refl
+strands-take (suc l) (t ∷ ts) = ap (λ x. record { lead = t .lead; one = t .one .characters; two = t .two .characters } ∷ x) (strands-take l ts)
+
+pub plane-levels : (l : ℕ) → ones plane (layers top) (take l levels) ≡ take l splits
+plane-levels l = ones-take l levels
+
+pub height-levels : (l : ℕ) → twos plane (layers top) (take l levels) ≡ take l (heightLevels radices)
+height-levels l = twos-take l levels
+
+pub level-strands : (l : ℕ) → strands plane (layers top) (take l levels) ≡ take l tenStrands
+unfolding strands
+level-strands l = strands-take l levels
+
+-- ---- the levels can be gone down
+
+pub levels-good : (l : ℕ) → l ≤ 10 → GoodBoth plane (layers top) laws (layer-laws top) (take l levels) (globe, all)
+unfolding spaceCodes radices-sound space-sound
+levels-good l h = radices-sound .fits l h
+
+pub root-in : (s : Cube) → OnGrid s → InBoth plane (layers top) laws (layer-laws top) (globe, all) s
+root-in s o = (o .on-globe, o .layer-in)
+
+-- ---- what the strands of l levels have
+
+pub record Counted (l : ℕ) : Type 0 where
+  pub some : each-some (take l tenStrands) ≡ true
+  pub one : counted (λ t. t .one) (take l tenStrands) ≡ splitAt (l - 1) .length
+  pub two : counted (λ t. t .two) (take l tenStrands) ≡ 2 + l
+  pub all-of : counted both-of (take l tenStrands) ≡ getD spaceLengths (l - 1) 0
+  pub few-one : splitAt (l - 1) .length ≤ 20
+  pub few-two : 2 + l ≤ 12
+  pub sum : total (space top) (take l levels) ≡ getD spaceLengths (l - 1) 0
+
+pub ten : (l : ℕ) → 1 ≤ l → l ≤ 10 → Counted l
+unfolding total
+ten zero a b = absurd (omega arith)
+ten (suc l) a b =
+    record {
+      some = below (λ l. each-some (take (suc l) tenStrands)) 10 l refl (omega arith);
+      one = eqb-true _ _ (below (λ l. eqb (counted (λ t. t .one) (take (suc l) tenStrands)) (splitAt (suc l - 1) .length)) 10 l refl (omega arith));
+      two = eqb-true _ _ (below (λ l. eqb (counted (λ t. t .two) (take (suc l) tenStrands)) (2 + suc l)) 10 l refl (omega arith));
+      all-of = eqb-true _ _ (below (λ l. eqb (counted both-of (take (suc l) tenStrands)) (getD spaceLengths (suc l - 1) 0)) 10 l refl (omega arith));
+      few-one = leb-true _ 20 (below (λ l. leb (splitAt (suc l - 1) .length) 20) 10 l refl (omega arith));
+      few-two = omega arith;
+      sum = eqb-true _ _ (below (λ l. eqb (total (space top) (take (suc l) levels)) (getD spaceLengths (suc l - 1) 0)) 10 l refl (omega arith));
+    }
+
+-- ---- the parts of a space code of level l, place by place
+
+module _ (l : ℕ) (C : Counted l) (w : List ℕ) (long : length w ≡ getD spaceLengths (l - 1) 0) where
+  whole : length w ≡ counted both-of (take l tenStrands)
+  whole = long ∙ sym (C .all-of)
+
+  same-part : {part : Strand → List ℕ → List ℕ} {count : Strand → ℕ} {place : Strand → ℕ → ℕ} (S : Sliced part count place) (n m : ℕ) → counted count (take l tenStrands) ≡ n → n ≤ m
+      → take n (map (λ p. getD w (placeIn count place tenStrands p) 0) (countFrom 0 m)) ≡ parts part (take l tenStrands) w
+  same-part {part} {count} {place} S n m e h =
+      let f : ℕ → ℕ = λ p. getD w (placeIn count place tenStrands p) 0 in
+      let a : length (take n (map f (countFrom 0 m))) ≡ n = length-take-le n (map f (countFrom 0 m)) (let z : length (map f (countFrom 0 m)) ≡ m = given-length f m in omega arith) in
+      let b : length (parts part (take l tenStrands) w) ≡ n = parts-length S (take l tenStrands) w (C .some) whole ∙ e in
+      ext-getD 0 (take n (map f (countFrom 0 m))) (parts part (take l tenStrands) w) (a ∙ sym b)
+      (λ i k.
+      (let q : i < n = subst (λ (x : ℕ). i < x) a k in
+      let r : i < counted count (take l tenStrands) = subst (λ (x : ℕ). i < x) (sym e) q in
+      getD-take n (map f (countFrom 0 m)) i 0 q
+      ∙ given-at f m i (omega arith)
+      ∙ ap (λ (x : ℕ). getD w x 0) (sym (place-fewer S l tenStrands i r))
+      ∙ sym (part-digit S (take l tenStrands) w i (C .some) whole r)))
+
+  pub plane-same : take (splitAt (l - 1) .length) (planePart w) ≡ firsts (take l tenStrands) w
+  plane-same = same-part sliced-one (splitAt (l - 1) .length) 20 (C .one) (C .few-one)
+
+  pub height-same : take (2 + l) (heightPart w) ≡ seconds (take l tenStrands) w
+  height-same = same-part sliced-two (2 + l) 12 (C .two) (C .few-two)
+
+  pub plane-long : length (firsts (take l tenStrands) w) ≡ splitAt (l - 1) .length
+  plane-long = parts-length sliced-one (take l tenStrands) w (C .some) whole ∙ C .one
+
+  pub height-long : length (seconds (take l tenStrands) w) ≡ 2 + l
+  height-long = parts-length sliced-two (take l tenStrands) w (C .some) whole ∙ C .two
+
+-- where a bad character stands
+pub plane-place : (l : ℕ) → Counted l → (p : ℕ) → p < splitAt (l - 1) .length → placeOne (take l tenStrands) p ≡ planePlace p
+unfolding planePlace
+plane-place l C p h =
+    place-fewer sliced-one l tenStrands p (subst (λ (x : ℕ). p < x) (sym (C .one)) h)
+    ∙ (let z : placeOne tenStrands p ≡ cond (ltb p 20) (placeOne tenStrands p) 0 = rw (lt-ltb p 20 (omega (arith, C .few-one))) refl in z)
+
+pub height-place : (l : ℕ) → Counted l → (p : ℕ) → p < 2 + l → placeTwo (take l tenStrands) p ≡ heightPlace p
+unfolding heightPlace
+height-place l C p h =
+    place-fewer sliced-two l tenStrands p (subst (λ (x : ℕ). p < x) (sym (C .two)) h)
+    ∙ (let z : placeTwo tenStrands p ≡ cond (ltb p 12) (placeTwo tenStrands p) 0 = rw (lt-ltb p 12 (omega (arith, C .few-two))) refl in z)

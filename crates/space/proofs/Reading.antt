@@ -1,0 +1,168 @@
+-- The space reader's answer: what the plane reader and the height reader answer to their parts of the code, together.
+-- Assumes nothing.
+use mathlib.Core.Path.{_≡_, refl, sym, _∙_, ap, subst}
+use mathlib.Core.Bool.{Bool, true, false}
+use mathlib.Core.List.{List, [], _∷_, map}
+use mathlib.Core.Option.{Option, some, none}
+use Prim.Native.Nat.{ℕ, zero, suc, _+_, _-_, _≤_, _<_, min}
+use native.Mathlib.Omega.{arith}
+use lib.Dec.{eqb}
+use lib.ListN.{length, take, getD, length-map}
+use borrow.Author.Tests.{eqb-true}
+use Rattle.grid.specs.declared.Cell.{Cell}
+use Rattle.grid.specs.declared.SpaceCell.{SpaceCell}
+use Rattle.grid.specs.Characters.{digitOf}
+use Rattle.grid.specs.Tree.{Read, ok, bad, follow}
+use Rattle.grid.specs.Answers.{Answer, accepted, refused, wrongLength, wrongCharacter}
+use Rattle.grid.specs.Codes.{placeIn, answer, answerAt, readIn}
+use Rattle.grid.specs.Splits.{splits, splitAt}
+use Rattle.grid.specs.Plane.{Node, globe, plane, planeCodes, cellOf}
+use Rattle.grid.specs.Layers.{radices, product, Stack, all, part, layers}
+use Rattle.grid.specs.Space.{space, spaceCodes, spaceCellOf, spaceLengths}
+use Rattle.grid.proofs.Cut.{clash, below}
+use Rattle.grid.proofs.Laws.{total, Ends, follow-ends}
+use Rattle.grid.proofs.PlaneLaws.{laws, splits-fit}
+use Rattle.grid.proofs.LayerLaws.{layer-laws, fitsAll}
+use Rattle.grid.proofs.BothLaws.{ones, twos}
+use Rattle.grid.proofs.Families.{Sound, lenIn, level-length, length-level}
+use Rattle.grid.proofs.Theorems.{plane-sound, radices-sound}
+use Rattle.layers.specs.declared.Height.{Height}
+use Rattle.layers.specs.Heights.{heightLevels, heightRead, heightOf}
+use Rattle.layers.proofs.Radices.{radices-fair}
+use Rattle.layers.proofs.Inside.{read-inside}
+use Rattle.plane.specs.Text.{orZero}
+use Rattle.space.specs.Weave.{Strand, firsts, seconds, placeTwo, together}
+use Rattle.space.specs.Space.{spaceLevelOf, tenStrands, planePart, heightPart, planePlace, heightPlace, joinedAnswer}
+use Rattle.space.proofs.Weaving.{strands, sliced-one, sliced-two, parts-map, follow-woven}
+use Rattle.space.proofs.Parts.{
+  top,
+  levels,
+  plane-levels,
+  height-levels,
+  level-strands,
+  levels-good,
+  Counted,
+  ten,
+  plane-same,
+  height-same,
+  plane-long,
+  height-long,
+  plane-place,
+  height-place,
+}
+
+-- ---- the level of a length
+
+-- what a level that was found says
+pub record Leveled (n l : ℕ) : Type 0 where
+  pub place : placeIn n 1 spaceLengths ≡ some l
+  pub low : 1 ≤ l
+  pub high : l ≤ 10
+  pub long : n ≡ getD spaceLengths (l - 1) 0
+
+pub leveled : (n : ℕ) {l : ℕ} → l ≡ spaceLevelOf n → (l ≡ 0 → ⊥) → Leveled n l
+unfolding spaceLevelOf spaceCodes
+leveled n {l} e h = go (placeIn n 1 spaceLengths) refl
+  where
+    go : (o : Option ℕ) → placeIn n 1 spaceLengths ≡ o → Leveled n l
+    go none p = absurd (h (e ∙ ap orZero p))
+    go (some k) p =
+        let q : l ≡ k = e ∙ ap orZero p in
+        let t = level-length (spaceCodes radices) radices-sound n k p in
+        subst (Leveled n) (sym q) (record { place = p; low = t .0; high = t .1; long = t .2 ∙ ten k (t .0) (t .1) .sum })
+
+pub read-none : (w : List ℕ) {l : ℕ} → l ≡ spaceLevelOf (length w) → l ≡ 0 → refused wrongLength ≡ spaceCellOf w
+unfolding spaceLevelOf spaceCellOf readIn spaceCodes
+read-none w {l} e h = go (placeIn (length w) 1 spaceLengths) refl
+  where
+    go : (o : Option ℕ) → placeIn (length w) 1 spaceLengths ≡ o → refused wrongLength ≡ answerAt (spaceCodes radices) w o
+    go none p = refl
+    go (some k) p =
+        let t = level-length (spaceCodes radices) radices-sound (length w) k p in
+        let z : l ≡ k = e ∙ ap orZero p in
+        absurd (omega (arith, t .0))
+
+-- ---- the two parts, each read
+
+plane-total : (l : ℕ) → 1 ≤ l → l ≤ 10 → total plane (take l splits) ≡ splitAt (l - 1) .length
+unfolding total
+plane-total zero a b = absurd (omega arith)
+plane-total (suc l) a b = eqb-true _ _ (below (λ l. eqb (total plane (take (suc l) splits)) (splitAt (suc l - 1) .length)) 10 l refl (omega arith))
+
+height-total : (l : ℕ) → 1 ≤ l → l ≤ 10 → total (layers top) (take l (heightLevels radices)) ≡ 2 + l
+unfolding total
+height-total zero a b = absurd (omega arith)
+height-total (suc l) a b = eqb-true _ _ (below (λ l. eqb (total (layers top) (take (suc l) (heightLevels radices))) (2 + suc l)) 10 l refl (omega arith))
+
+heights-fit : (l : ℕ) → l ≤ 10 → fitsAll (take l (heightLevels radices)) top ≡ true
+heights-fit l h = below (λ l. fitsAll (take l (heightLevels radices)) top) 11 l refl (omega arith)
+
+module _ (l : ℕ) (low : 1 ≤ l) (high : l ≤ 10) where
+  C : Counted l
+  C = ten l low high
+
+  -- a bad plane character, and a bad height character, stands in its part
+  plane-inside : (d : List ℕ) (p : ℕ) → length d ≡ splitAt (l - 1) .length → follow plane (take l splits) globe d ≡ bad p → p < splitAt (l - 1) .length
+  plane-inside d p e f =
+      let t = plane-total l low high in
+      subst (λ (x : ℕ). p < x) t (follow-ends plane laws (take l splits) globe d p (splits-fit l high) (e ∙ sym t) f .inside)
+
+  height-inside : (d : List ℕ) (q : ℕ) → length d ≡ 2 + l → heightRead radices l d ≡ bad q → q < 2 + l
+  unfolding heightRead
+  height-inside d q e f =
+      let t = height-total l low high in
+      subst (λ (x : ℕ). q < x) t (follow-ends (layers top) (layer-laws top) (take l (heightLevels radices)) all d q (heights-fit l high) (e ∙ sym t) f .inside)
+
+  -- the two readings, as answers and together
+  as-joined : (ra : Read Node) (rb : Read Stack) → ((p : ℕ) → ra ≡ bad p → p < splitAt (l - 1) .length) → ((q : ℕ) → rb ≡ bad q → q < 2 + l)
+      → unfold planeCodes spaceCodes in (answer (spaceCodes radices) l (together (take l tenStrands) ra rb) ≡ joinedAnswer (answer planeCodes l ra) rb)
+  unfolding planeCodes spaceCodes
+  as-joined (ok n) (ok m) ha hb = refl
+  as-joined (ok n) (bad q) ha hb = ap (λ (x : ℕ). refused (wrongCharacter x)) (height-place l C q (hb q refl))
+  as-joined (bad p) (ok m) ha hb = ap (λ (x : ℕ). refused (wrongCharacter x)) (plane-place l C p (ha p refl))
+  as-joined (bad p) (bad q) ha hb =
+      ap (λ (x : ℕ). refused (wrongCharacter (min x (placeTwo (take l tenStrands) q)))) (plane-place l C p (ha p refl))
+      ∙ ap (λ (x : ℕ). refused (wrongCharacter (min (planePlace p) x))) (height-place l C q (hb q refl))
+
+  -- a plane code of this length is read level by level
+  cell-of : (v : List ℕ) → length v ≡ splitAt (l - 1) .length → unfold planeCodes in (cellOf v ≡ answer planeCodes l (follow plane (take l splits) globe (map digitOf v)))
+  unfolding cellOf readIn planeCodes
+  cell-of v e = rw (e ∙ sym (plane-total l low high), length-level planeCodes plane-sound l low high) refl
+
+  module _ (w : List ℕ) (long : length w ≡ getD spaceLengths (l - 1) 0) where
+    abbrev S : List Strand
+    S = take l tenStrands
+
+    -- the two parts read together
+    both-read : follow (space top) (take l levels) (globe, all) (map digitOf w)
+        ≡ together S (follow plane (take l splits) globe (map digitOf (firsts S w))) (heightRead radices l (map digitOf (seconds S w)))
+    unfolding heightRead
+    both-read =
+        follow-woven plane (layers top) laws (layer-laws top) (take l levels) (globe, all) (map digitOf w) (levels-good l high) (length-map w digitOf ∙ long ∙ sym (C .sum))
+        ∙ rw (plane-levels l, height-levels l, level-strands l, parts-map sliced-one digitOf S w, parts-map sliced-two digitOf S w) refl
+
+    pub read-parts : placeIn (length w) 1 spaceLengths ≡ some l
+        → joinedAnswer (cellOf (take (splitAt (l - 1) .length) (planePart w))) (heightRead radices l (map digitOf (take (2 + l) (heightPart w)))) ≡ spaceCellOf w
+    unfolding spaceCellOf readIn spaceCodes planeCodes
+    read-parts q =
+        let a = plane-same l C w long in
+        let b = height-same l C w long in
+        let fa = firsts S w in
+        let fb = seconds S w in
+        rw (a, b, q, both-read, cell-of fa (plane-long l C w long))
+        (sym (as-joined (follow plane (take l splits) globe (map digitOf fa)) (heightRead radices l (map digitOf fb))
+        (λ p e. plane-inside (map digitOf fa) p (length-map fa digitOf ∙ plane-long l C w long) e)
+        (λ p e. height-inside (map digitOf fb) p (length-map fb digitOf ∙ height-long l C w long) e)))
+
+-- the reader's answer, from its two parts' answers
+pub read-joined : (w : List ℕ) (l : ℕ) → Leveled (length w) l → {r : Answer SpaceCell} {a : Answer Cell} {b : Read Stack} → r ≡ joinedAnswer a b
+    → a ≡ cellOf (take (splitAt (l - 1) .length) (planePart w)) → b ≡ heightRead radices l (map digitOf (take (2 + l) (heightPart w))) → r ≡ spaceCellOf w
+read-joined w l t {a = a} {b = b} e f g =
+    e ∙ ap (λ x. joinedAnswer x b) f ∙ ap (λ x. joinedAnswer (cellOf (take (splitAt (l - 1) .length) (planePart w))) x) g
+    ∙ read-parts l (t .low) (t .high) w (t .long) (t .place)
+
+-- layers that were read lie in their range
+pub low-inside : (l : ℕ) (ds : List ℕ) (h : Height) → h .good ≡ true → heightOf h ≡ heightRead radices l ds → h .low < product radices
+low-inside l ds h g e =
+    let r = read-inside radices l ds radices-fair (sym e ∙ (let z : heightOf h ≡ ok (part (h .above) (h .low) (h .thick)) = rw g refl in z)) in
+    omega (arith, r .0, r .1)

@@ -1,0 +1,21 @@
+-- `space::height_place` meets its contract. Assumes nothing.
+use native.Mathlib.Omega.{arith}
+use Rattle.space.proofs.Tables.{height-at, height-none}
+use borrow.Author.Needs.{needs}
+use Rattle.space.proofs.height_place.Statement.{statement}
+use Rattle.space.proofs.height_place.Tie as tie
+
+array-read-result : tie.Need-array-read-result
+array-read-result c = search needs
+
+cast-result : tie.Need-cast-result
+cast-result c = omega (arith, height-at (c .before .args .p) (c .if1 .taken) .small)
+
+returns : tie.Need-returns
+returns c = height-at (c .before .args .p) (c .if1 .taken) .same
+
+returns-2 : tie.Need-returns-2
+returns-2 c = height-none _ (c .if1 .left)
+
+pub height-place-spec : {M : Type 1} → statement M
+height-place-spec = tie.close (tie.spec array-read-result cast-result returns returns-2)

@@ -1,0 +1,55 @@
+-- `space::read` meets its contract. Assumes nothing.
+use mathlib.Core.Path.{_≡_, sym, _∙_, ap}
+use mathlib.Core.Bool.{Bool, true, false, cond}
+use Prim.Native.Nat.{ℕ, _<_, _+_, _≤_}
+use native.Mathlib.Omega.{arith}
+use mathlib.Core.List.{map}
+use lib.ListN.{length, take}
+use Rattle.grid.specs.Answers as answers
+use Rattle.grid.specs.Characters.{digitOf}
+use Rattle.space.specs.Space.{heightPart}
+use Rattle.space.proofs.Reading.{Leveled, leveled, read-none, read-joined, low-inside}
+use borrow.Author.Needs.{needs}
+use Rattle.space.proofs.read.Statement.{statement}
+use Rattle.space.proofs.read.Tie as tie
+
+-- the level that was found is the code's
+known : (c : tie.Else1) → Leveled (length (c .before .before .before .args .code .now)) (c .before .level-of .result)
+known c = leveled _ (c .before .level-of .ensures) (c .if1 .left)
+
+level-of-requires : tie.Need-level-of-requires
+level-of-requires c κs = search needs
+
+refuse-requires : tie.Need-refuse-requires
+refuse-requires c κs = search needs
+
+returns : tie.Need-returns
+returns c = ap answers.refused (c .refuse .ensures) ∙ read-none (c .before .before .before .before .args .code .now) (c .before .before .level-of .ensures) (c .before .if1 .taken)
+
+plane-of-requires : tie.Need-plane-of-requires
+plane-of-requires c κs = let t = known c in (t .low, t .high)
+
+height-of-requires : tie.Need-height-of-requires
+height-of-requires c κs = let t = known (c .before) in (t .low, t .high)
+
+joined-requires : tie.Need-joined-requires
+joined-requires c κs =
+    λ g. low-inside (c .before .before .before .level-of .result)
+    (map digitOf (take (2 + c .before .before .before .level-of .result) (heightPart (c .before .before .before .before .before .args .code .now)))) (c .height-of .result) g (c .height-of .ensures)
+
+returns-2 : tie.Need-returns-2
+returns-2 c =
+    let s = c .before .before .before .before .before .before in
+    read-joined (s .args .code .now) (c .before .before .before .before .level-of .result) (known (c .before .before .before)) (c .joined .ensures) (c .before .before .plane-of .ensures) (c .before .height-of .ensures)
+
+pub read-spec : {M : Type 1} → statement M
+read-spec =
+    tie.close
+    (tie.spec
+    level-of-requires
+    refuse-requires
+    returns
+    plane-of-requires
+    height-of-requires
+    joined-requires
+    returns-2)

@@ -1,0 +1,412 @@
+// Space codes of levels 1 to 10 (document 01): from position and layer to code, and from code to space cell.
+// A space code is woven of its plane code and its height characters: both are built apart, and then laid into the line; a reader takes them apart.
+
+ghost use mathlib.Core.Path.{_≡_};
+ghost use mathlib.Core.Bool.{true};
+ghost use mathlib.Core.List.{map};
+ghost use Prim.Native.Nat.{_+_, _-_, _≤_, _<_, min};
+ghost use lib.ListN.{length, getD, take};
+ghost use lib.Seq.{sets};
+ghost use Rattle.grid.specs.Answers.{accepted, refused, wrongCharacter, planeRead};
+ghost use Rattle.grid.specs.Laying.{text, laid, written};
+ghost use Rattle.grid.specs.Space.{spaceCodeOf, spaceCellOf, spaceLengths};
+ghost use Rattle.grid.specs.Units.{squareOf};
+ghost use Rattle.grid.specs.Characters.{digitOf};
+ghost use Rattle.grid.specs.Splits.{splitAt};
+ghost use Rattle.grid.specs.Plane.{cellOf};
+ghost use Rattle.grid.specs.Layers.{radices, product};
+ghost use Rattle.layers.specs.Heights.{heightOf, heightRead, layerOf};
+ghost use Rattle.space.specs.Weave.{weave};
+ghost use Rattle.space.specs.Space.{
+  spaceText,
+  layeredText,
+  askedSpaceText,
+  Fits,
+  FittingSpace,
+  spaceRead,
+  spaceLevelOf,
+  tenStrands,
+  planePart,
+  heightPart,
+  planePlace,
+  heightPlace,
+  joinedAnswer,
+};
+use grid::Cell;
+use grid::Place;
+use grid::PlaneRead;
+use grid::Refusal;
+use grid::SpaceCell;
+use grid::Written;
+use layers::AskedLayer;
+use layers::Height;
+use plane::Asked;
+
+// A space reader's answer.
+pub enum SpaceRead {
+    Found(SpaceCell),
+    Refused(Refusal),
+}
+
+// The place n holds the level of the space codes that are n bytes long, 0 where there is none.
+const LEVELS: [u8; 33] = [
+    0,
+    0,
+    0,
+    0,
+    0,
+    0,
+    0,
+    1,
+    0,
+    0,
+    2,
+    0,
+    3,
+    0,
+    0,
+    4,
+    0,
+    0,
+    5,
+    0,
+    6,
+    0,
+    0,
+    7,
+    0,
+    0,
+    8,
+    0,
+    0,
+    9,
+    0,
+    0,
+    10,
+];
+
+// The level of the space codes of a length; 0 where there is none.
+fn level_of(n: usize) -> u32
+    ensures { λ r. ⌜ r ≡ spaceLevelOf n ⌝ }
+{
+    if n < 33 { LEVELS[n] as u32 } else { 0 }
+}
+
+// The length of the space codes of a level: its plane characters and two more height characters than levels.
+fn length_of(level: u32) -> usize
+    requires { ⌜ (1 ≤ level) × (level ≤ 10) ⌝ }
+    ensures { λ r. ⌜ r ≡ getD spaceLengths (level - 1) 0 ⌝ }
+{
+    plane::length_of(level) + 2 + level as usize
+}
+
+// ---- woven and taken apart
+
+// The characters of a space code of level 10: at each level those of the plane, then that of the height.
+fn woven(p: [u8; 20], h: [u8; 12]) -> [u8; 32]
+    ensures { λ r. ⌜ r ≡ weave tenStrands p h ⌝ }
+{
+    [
+        p[0],
+        h[0],
+        p[1],
+        p[2],
+        p[3],
+        h[1],
+        h[2],
+        p[4],
+        p[5],
+        h[3],
+        p[6],
+        h[4],
+        p[7],
+        p[8],
+        h[5],
+        p[9],
+        p[10],
+        h[6],
+        p[11],
+        h[7],
+        p[12],
+        p[13],
+        h[8],
+        p[14],
+        p[15],
+        h[9],
+        p[16],
+        p[17],
+        h[10],
+        p[18],
+        p[19],
+        h[11],
+    ]
+}
+
+// The byte at a place, 0 past the end.
+fn byte_at(code: &[u8], i: usize) -> u8
+    ensures { λ r. ⌜ r ≡ getD (now (code .entry)) i 0 ⌝ }
+{
+    if i < code.len() { code[i] } else { 0 }
+}
+
+// The plane characters of a space code.
+fn plane_part(code: &[u8]) -> [u8; 20]
+    ensures { λ r. ⌜ r ≡ planePart (now (code .entry)) ⌝ }
+{
+    [
+        byte_at(code, 0),
+        byte_at(code, 2),
+        byte_at(code, 3),
+        byte_at(code, 4),
+        byte_at(code, 7),
+        byte_at(code, 8),
+        byte_at(code, 10),
+        byte_at(code, 12),
+        byte_at(code, 13),
+        byte_at(code, 15),
+        byte_at(code, 16),
+        byte_at(code, 18),
+        byte_at(code, 20),
+        byte_at(code, 21),
+        byte_at(code, 23),
+        byte_at(code, 24),
+        byte_at(code, 26),
+        byte_at(code, 27),
+        byte_at(code, 29),
+        byte_at(code, 30),
+    ]
+}
+
+// The height characters of a space code.
+fn height_part(code: &[u8]) -> [u8; 12]
+    ensures { λ r. ⌜ r ≡ heightPart (now (code .entry)) ⌝ }
+{
+    [
+        byte_at(code, 1),
+        byte_at(code, 5),
+        byte_at(code, 6),
+        byte_at(code, 9),
+        byte_at(code, 11),
+        byte_at(code, 14),
+        byte_at(code, 17),
+        byte_at(code, 19),
+        byte_at(code, 22),
+        byte_at(code, 25),
+        byte_at(code, 28),
+        byte_at(code, 31),
+    ]
+}
+
+// Where a plane character, or a height character, stands in a space code.
+const PLANE_PLACES: [u8; 20] = [
+    0,
+    2,
+    3,
+    4,
+    7,
+    8,
+    10,
+    12,
+    13,
+    15,
+    16,
+    18,
+    20,
+    21,
+    23,
+    24,
+    26,
+    27,
+    29,
+    30,
+];
+
+const HEIGHT_PLACES: [u8; 12] = [1, 5, 6, 9, 11, 14, 17, 19, 22, 25, 28, 31];
+
+fn plane_place(p: usize) -> usize
+    ensures { λ r. ⌜ r ≡ planePlace p ⌝ }
+{
+    if p < 20 { PLANE_PLACES[p] as usize } else { 0 }
+}
+
+fn height_place(p: usize) -> usize
+    ensures { λ r. ⌜ r ≡ heightPlace p ⌝ }
+{
+    if p < 12 { HEIGHT_PLACES[p] as usize } else { 0 }
+}
+
+// The first n characters, from the line's first byte on.
+fn copy_first(w: [u8; 32], n: usize, line: &mut [u8])
+    requires { ⌜ (n ≤ 32) × (n ≤ length (now line)) ⌝ }
+    ensures { λ _. ⌜ now (line .exit) ≡ sets (now (line .entry)) 0 (take n w) ⌝ }
+{
+    let mut i = 0;
+    while i < n {
+        line[i] = w[i];
+        i += 1;
+    }
+}
+
+// ---- writing
+
+// What a space writer is asked for, once refusals 1 to 4 are decided in that order.
+pub enum AskedSpace {
+    At(u32, Place, bool, u32),
+    Unmet(Refusal),
+}
+
+// Refusal 4, else the layer's side and rise.
+fn over(l: u32, p: Place, layer: i64) -> AskedSpace
+    requires { ⌜ (1 ≤ l) × (l ≤ 10) × (p .x < 1327104000) × (p .y < 663552000) ⌝ }
+    ensures { λ r. ⌜ (askedSpaceText r ≡ layeredText l (squareOf p) layer) × FittingSpace r ⌝ }
+{
+    match layers::ask_layer(layer) {
+        AskedLayer::At(above, rise) => AskedSpace::At(l, p, above, rise),
+        AskedLayer::Outside => AskedSpace::Unmet(plane::refuse(4)),
+    }
+}
+
+// Refusals 1 to 4, else all that a space code is written of.
+fn ask(level: i64, longitude: i64, latitude: i64, layer: i64) -> AskedSpace
+    ensures { λ r. ⌜ (askedSpaceText r ≡ spaceText level longitude latitude layer) × FittingSpace r ⌝ }
+{
+    match plane::ask(level, longitude, latitude) {
+        Asked::At(l, p) => over(l, p, layer),
+        Asked::Refused(r) => AskedSpace::Unmet(r),
+    }
+}
+
+// The characters of a space code: the plane's and the height's, built apart and woven. Past the code's length they are of no use.
+fn built(l: u32, p: Place, above: bool, rise: u32) -> [u8; 32]
+    requires { ⌜ Fits l p rise ⌝ }
+    ensures { λ r. ⌜ (take (getD spaceLengths (l - 1) 0) r ≡ spaceCodeOf l (squareOf p, layerOf (product radices) above rise)) × (length r ≡ 32) ⌝ }
+{
+    let mut flat = [0u8; 20];
+    plane::put(l, p, &mut flat);
+    let mut high = [0u8; 12];
+    layers::put(l, above, rise, &mut high);
+    woven(flat, high)
+}
+
+// Lays the space code into the line from `at` on, if there is room: refusal 5, else the number of bytes.
+fn lay(l: u32, p: Place, above: bool, rise: u32, line: &mut [u8], at: usize) -> Written
+    requires { ⌜ Fits l p rise ⌝ }
+    ensures { λ r. ⌜ (written r, now (line .exit)) ≡ laid (text (spaceCodeOf l (squareOf p, layerOf (product radices) above rise))) (now (line .entry)) at ⌝ }
+{
+    let n = length_of(l);
+    if line.len() < at {
+        return Written::Refused(plane::refuse(5));
+    }
+    if line.len() - at < n {
+        return Written::Refused(plane::refuse(5));
+    }
+    let w = built(l, p, above, rise);
+    copy_first(w, n, &mut line[at..]);
+    Written::Bytes(n)
+}
+
+// The space code of a position and a layer, written into the line from `at` on. Refusals 1, 2, 3, 4 and 5, in that order; a refusal changes no byte.
+pub fn write(
+    level: i64,
+    longitude: i64,
+    latitude: i64,
+    layer: i64,
+    line: &mut [u8],
+    at: usize,
+) -> Written
+    ensures { λ r. ⌜ (written r, now (line .exit)) ≡ laid (spaceText level longitude latitude layer) (now (line .entry)) at ⌝ }
+{
+    match ask(level, longitude, latitude, layer) {
+        AskedSpace::At(l, p, above, rise) => lay(l, p, above, rise, line, at),
+        AskedSpace::Unmet(r) => Written::Refused(r),
+    }
+}
+
+// ---- reading
+
+// The character at a place is not allowed.
+fn bad_at(place: usize) -> SpaceRead
+    ensures { λ r. ⌜ spaceRead r ≡ refused (wrongCharacter place) ⌝ }
+{
+    SpaceRead::Refused(Refusal {
+        number: 7,
+        place: place,
+        ordinal: 1,
+    })
+}
+
+// The lesser of two places.
+fn lesser(a: usize, b: usize) -> usize
+    ensures { λ r. ⌜ r ≡ min a b ⌝ }
+{
+    if a < b { a } else { b }
+}
+
+// A plane cell with the layers that were read over it.
+fn over_cell(c: Cell, h: Height) -> SpaceRead
+    requires { ⌜ (h .good ≡ true → h .low < product radices) ⌝ }
+    ensures { λ r. ⌜ spaceRead r ≡ joinedAnswer (accepted c) (heightOf h) ⌝ }
+{
+    if h.good {
+        return SpaceRead::Found(SpaceCell {
+            cell: c,
+            floor: layers::floor(h.above, h.low),
+            thickness: h.thick,
+        });
+    }
+    bad_at(height_place(h.place))
+}
+
+// A bad plane character, unless a bad height character stands before it.
+fn over_refusal(q: Refusal, h: Height) -> SpaceRead
+    ensures { λ r. ⌜ spaceRead r ≡ joinedAnswer (refused q) (heightOf h) ⌝ }
+{
+    let p = plane_place(q.place);
+    if h.good {
+        return bad_at(p);
+    }
+    bad_at(lesser(p, height_place(h.place)))
+}
+
+fn joined(a: PlaneRead, h: Height) -> SpaceRead
+    requires { ⌜ (h .good ≡ true → h .low < product radices) ⌝ }
+    ensures { λ r. ⌜ spaceRead r ≡ joinedAnswer (planeRead a) (heightOf h) ⌝ }
+{
+    match a {
+        PlaneRead::Found(c) => over_cell(c, h),
+        PlaneRead::Refused(q) => over_refusal(q, h),
+    }
+}
+
+// The plane code of a space code, read.
+fn plane_of(level: u32, code: &[u8]) -> PlaneRead
+    requires { ⌜ (1 ≤ level) × (level ≤ 10) ⌝ }
+    ensures { λ r. ⌜ planeRead r ≡ cellOf (take (splitAt (level - 1) .length) (planePart (now (code .entry)))) ⌝ }
+{
+    let p = plane_part(code);
+    let n = plane::length_of(level);
+    plane::read(&p[..n])
+}
+
+// The height characters of a space code, read.
+fn height_of(level: u32, code: &[u8]) -> Height
+    requires { ⌜ (1 ≤ level) × (level ≤ 10) ⌝ }
+    ensures { λ r. ⌜ heightOf r ≡ heightRead radices level (map digitOf (take (2 + level) (heightPart (now (code .entry))))) ⌝ }
+{
+    let h = height_part(code);
+    let n = 2 + level as usize;
+    layers::read(level, &h[..n])
+}
+
+// The space cell of a space code. Refusals 6 and 7, in that order; 7 has the place of the first bad character in the whole space code.
+pub fn read(code: &[u8]) -> SpaceRead
+    ensures { λ r. ⌜ spaceRead r ≡ spaceCellOf (now (code .entry)) ⌝ }
+{
+    let level = level_of(code.len());
+    if level == 0 {
+        return SpaceRead::Refused(plane::refuse(6));
+    }
+    let a = plane_of(level, code);
+    let h = height_of(level, code);
+    joined(a, h)
+}
