@@ -8,6 +8,7 @@ ghost use lib.Dec.{T};
 ghost use lib.IntN.{pos};
 ghost use lib.Ieee.{isNan};
 ghost use Rattle.grid.specs.Answers.{refused, refusal, planeRead};
+ghost use Rattle.grid.specs.Plane.{cellOf};
 ghost use Rattle.arcseconds.specs.Readings.{readingOf, unitsAt, unitsOf, unitsRead};
 ghost use Rattle.arcseconds.specs.Boxes.{Exactly, BoxOf, BoxSays};
 use grid::Cell;
@@ -163,4 +164,11 @@ pub fn box_answer(r: PlaneRead) -> BoxRead
         PlaneRead::Found(c) => BoxRead::Found(box_of(c)),
         PlaneRead::Refused(f) => BoxRead::Refused(f),
     }
+}
+
+// The box of a plane code in arc-seconds. Refusals 6 and 7, in that order.
+pub fn plane_box(code: &[u8]) -> BoxRead
+    ensures { λ b. ⌜ BoxSays (cellOf (now (code .entry))) b ⌝ }
+{
+    box_answer(plane::read(code))
 }

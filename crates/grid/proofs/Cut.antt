@@ -6,7 +6,7 @@ use Prim.Native.Nat.{ℕ, zero, suc, _+_, _-_, _*_, _/_, _%_, _≤_, _<_, min}
 use mathlib.Core.List.{List, [], _∷_, _++_}
 use mathlib.Core.Logic.{_⊎_, inl, inr}
 use native.Mathlib.Omega.{arith}
-use native.Mathlib.Nat.{div-lt-iff-lt-mul, div-mul-le-self, lt-div-mul-add, div-eq-of-lt-le, mul-le-mul-right, add-mul, one-mul, le-trans}
+use native.Mathlib.Nat.{div-lt-iff-lt-mul, div-mul-le-self, lt-div-mul-add, div-eq-of-lt-le, div-add-mod', mod-lt, mod-eq-of-lt, mul-add-mod-self-right, mul-add-div-right, mul-le-mul-right, mul-assoc, mul-pos, add-mul, one-mul, le-trans}
 use lib.Dec.{T, ltb, leb, eqb}
 use lib.ListN.{getD}
 use borrow.Author.Tests.{ltb-true, leb-true, eqb-true, eqb-false, lt-ltb, le-leb, eq-eqb}
@@ -39,6 +39,36 @@ cut-end c k d w h e =
     let m : (c + 1) * d ≤ k * d = mul-le-mul-right d (omega arith) in
     let f : (c + 1) * d ≡ c * d + d = suc-mul c d in
     omega arith
+
+-- ---- a number X in segments that are each cut into k parts of length d
+
+module _ (X k d : ℕ) (some : 0 < k) (long : 0 < d) where
+  -- X in parts: those of the whole segments before it, and those in its own
+  parts : X / d ≡ X / (k * d) * k + X % (k * d) / d
+  parts =
+      let e : X / (k * d) * k * d + X % (k * d) ≡ X = ap (λ (z : ℕ). z + X % (k * d)) (mul-assoc (X / (k * d)) k d) ∙ div-add-mod' X (k * d) in
+      ap (λ (z : ℕ). z / d) (sym e) ∙ mul-add-div-right long (X / (k * d) * k) (X % (k * d))
+
+  rest : X - X / (k * d) * (k * d) ≡ X % (k * d)
+  rest = let e : X / (k * d) * (k * d) + X % (k * d) ≡ X = div-add-mod' X (k * d) in omega arith
+
+  -- in the segment that holds X the part is X / d % k
+  pub part-direct : (X - X / (k * d) * (k * d)) / d ≡ X / d % k
+  part-direct =
+      let m : X % (k * d) / d < k = div-lt-iff-lt-mul long .1 (mod-lt X (mul-pos some long)) in
+      ap (λ (z : ℕ). z / d) rest
+      ∙ sym (ap (λ (z : ℕ). z % k) parts ∙ mul-add-mod-self-right (X / (k * d)) k (X % (k * d) / d) ∙ mod-eq-of-lt m)
+
+  -- and the part begins where its own length says
+  pub part-begins : X / (k * d) * (k * d) + (X - X / (k * d) * (k * d)) / d * d ≡ X / d * d
+  part-begins =
+      ap (λ (z : ℕ). X / (k * d) * (k * d) + z / d * d) rest
+      ∙ ap (λ (z : ℕ). z + X % (k * d) / d * d) (sym (mul-assoc (X / (k * d)) k d))
+      ∙ sym (add-mul (X / (k * d) * k) (X % (k * d) / d) d)
+      ∙ sym (ap (λ (z : ℕ). z * d) parts)
+
+  pub begins-direct : X / (k * d) * (k * d) + X / d % k * d ≡ X / d * d
+  begins-direct = ap (λ (z : ℕ). X / (k * d) * (k * d) + z * d) (sym part-direct) ∙ part-begins
 
 -- ---- tests
 

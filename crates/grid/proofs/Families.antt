@@ -2,7 +2,7 @@
 -- Assumes nothing.
 use mathlib.Core.Path.{_≡_, refl, sym, _∙_, ap, subst}
 use mathlib.Core.Bool.{Bool, true, false, cond, _&&_, _||_}
-use mathlib.Core.List.{List, [], _∷_, _++_, map}
+use mathlib.Core.List.{List, [], _∷_, _++_, map, map-append}
 use mathlib.Core.Option.{Option, some, none}
 use mathlib.Core.Logic.{_↔_, _⊎_, inl, inr}
 use Prim.Native.Nat.{ℕ, zero, suc, _+_, _-_, _≤_, _<_}
@@ -18,13 +18,9 @@ use Rattle.grid.specs.Answers.{Answer, accepted, refused, wrongLength, w
 use Rattle.grid.specs.Codes.{Codes, codeIn, readIn, placeIn, answer, answerAt}
 use Rattle.grid.specs.Demands.{Family, Begins, Accepted, Given, Share, FirstBad, Demands}
 use Rattle.grid.proofs.Cut.{clash, Below, and-true, allBelow, below}
+use Rattle.grid.proofs.Lists.{take-map}
 use Rattle.grid.proofs.Characters.{digits-chars, chars-digits}
 use Rattle.grid.proofs.Laws.{Laws, Ends, total, code-holds, code-only, length-code, code-small, code-more, follow-good, follow-small, follow-ends}
-
-take-map : (f : ℕ → ℕ) (n : ℕ) (l : List ℕ) → take n (map f l) ≡ map f (take n l)
-take-map f zero l = refl
-take-map f (suc n) [] = refl
-take-map f (suc n) (x ∷ l) = ap (λ y. f x ∷ y) (take-map f n l)
 
 below-take : (k n : ℕ) (l : List ℕ) → Below k l → Below k (take n l)
 below-take k zero l h = tt
@@ -39,10 +35,6 @@ number (refused r) = r .number
 place : {C : Type 0} → Answer C → ℕ
 place (accepted c) = 0
 place (refused r) = r .place
-
-map-begins : (f : ℕ → ℕ) (a r : List ℕ) → map f a ++ map f r ≡ map f (a ++ r)
-map-begins f [] r = refl
-map-begins f (x ∷ a) r = ap (λ y. f x ∷ y) (map-begins f a r)
 
 same-start : (a r b p q : List ℕ) (n : ℕ) → length a ≡ n → length p ≡ n → a ++ r ≡ b → p ++ q ≡ b → a ≡ p
 same-start a r b p q n la lp ea ep = sym (take-at a r n la) ∙ ap (λ (x : List ℕ). take n x) (ea ∙ sym ep) ∙ take-at p q n lp
@@ -206,7 +198,7 @@ module _ (K : Codes) (S : Sound K) where
       let e : k ≡ l + (k - l) = omega arith in
       let t = code-more (K .tree) (take l (K .levels)) (take (k - l) (drop l (K .levels))) (K .root) s in (
         map charOf (t .0),
-        map-begins charOf (digits-at l s) (t .0)
+        sym (map-append charOf (digits-at l s) (t .0))
             ∙ ap (map charOf) (t .1 ∙ ap (λ ts. code (K .tree) ts (K .root) s) (sym (take-add l (k - l) (K .levels)) ∙ ap (λ (i : ℕ). take i (K .levels)) (sym e))),
       )
 

@@ -20,7 +20,7 @@ letter-fine : (n : Bool) → (eqb (letter n) 23 || eqb (letter n) 28) ≡ true
 letter-fine true = refl
 letter-fine false = refl
 
-letter-north : (n : Bool) → eqb (letter n) 23 ≡ n
+pub letter-north : (n : Bool) → eqb (letter n) 23 ≡ n
 letter-north true = refl
 letter-north false = refl
 
@@ -37,7 +37,7 @@ zone-low : (u : ℤ) → index u < 1327104000 → 1 ≤ zone u
 zone-low (pos x) h = omega arith
 zone-low (negsuc x) h = omega arith
 
-zone-high : (u : ℤ) → index u < 1327104000 → zone u ≤ 60
+pub zone-high : (u : ℤ) → index u < 1327104000 → zone u ≤ 60
 zone-high (pos x) h = omega arith
 zone-high (negsuc x) h = omega arith
 

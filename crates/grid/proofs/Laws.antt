@@ -3,6 +3,7 @@
 use mathlib.Core.Path.{_≡_, refl, sym, _∙_, ap, subst}
 use mathlib.Core.List.{List, [], _∷_, _++_, append-assoc}
 use Prim.Native.Nat.{ℕ, zero, suc, _+_, _≤_, _<_}
+use native.Mathlib.Nat.{zero-add, add-assoc}
 use native.Mathlib.Omega.{arith}
 use lib.ListN.{length, take, drop, length-append, take-append-drop, length-drop}
 use lib.Seq.{take-at, drop-at, take-add, take-take, take-append-le, take-append-add, length-take-le}
@@ -30,6 +31,15 @@ pub record Laws (R : Tree) : Type 1 where
   pub small : (t : R .Level) (ts : List (R .Level)) (n : R .Node) (w : List ℕ) (m : R .Node) → Good (t ∷ ts) n → R .child t n w ≡ ok m → Below 32 w
   pub some : (ts : List (R .Level)) (n : R .Node) → Good ts n → (s : R .Point) × In n s
   pub stops : (t : R .Level) (ts : List (R .Level)) (n : R .Node) (w : List ℕ) (p : ℕ) → Good (t ∷ ts) n → length w ≡ R .size t → R .child t n w ≡ bad p → Halts (R .child t n) (R .size t) w p
+
+-- places counted on
+pub shift-zero : {A : Type 0} (r : Read A) → shift 0 r ≡ r
+shift-zero (ok a) = refl
+shift-zero (bad p) = ap bad (zero-add p)
+
+pub shift-shift : {A : Type 0} (i j : ℕ) (r : Read A) → shift i (shift j r) ≡ shift (i + j) r
+shift-shift i j (ok a) = refl
+shift-shift i j (bad p) = ap bad (sym (add-assoc i j p))
 
 -- what `next` being ok says
 pub next-ok : {A B : Type 0} (k : ℕ) (r : Read A) (f : A → Read B) (b : B) → next k r f ≡ ok b → (a : A) × (r ≡ ok a) × (f a ≡ ok b)

@@ -67,14 +67,14 @@ module _ (top : ℕ) where
   GoodStack ts all = fitsAll ts top ≡ true
   GoodStack ts (part a low n) = GoodPart ts low n
 
-  rise-below : (z : ℤ) → index z < top → rise top z < top
+  pub rise-below : (z : ℤ) → index z < top → rise top z < top
   rise-below (pos n) h = h
   rise-below (negsuc n) h = omega arith
 
   sign-back : (s : ℕ) → s < 2 → sign (eqb s 0) ≡ s
   sign-back s h = eqb-true _ s (below (λ s. eqb (sign (eqb s 0)) s) 2 s refl h)
 
-  sign-small : (b : Bool) → ltb (sign b) 2 ≡ true
+  pub sign-small : (b : Bool) → ltb (sign b) 2 ≡ true
   sign-small true = refl
   sign-small false = refl
 
@@ -82,7 +82,7 @@ module _ (top : ℕ) where
   sign-zero true = refl
   sign-zero false = refl
 
-  all-read : (b : Bool) (r d : ℕ) → d < r → allChild top r (sign b ∷ (d / 10) ∷ (d % 10) ∷ []) ≡ ok (part b (d * (top / r)) (top / r))
+  pub all-read : (b : Bool) (r d : ℕ) → d < r → allChild top r (sign b ∷ (d / 10) ∷ (d % 10) ∷ []) ≡ ok (part b (d * (top / r)) (top / r))
   all-read b r d h =
       let e : 10 * (d / 10) + d % 10 ≡ d = omega arith in
       rw (sign-small b, sign-zero b, e, lt-ltb (10 * (d / 10)) r (omega arith), le-leb (d % 10) 9 (omega arith), lt-ltb d r h) refl

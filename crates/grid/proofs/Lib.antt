@@ -1,4 +1,6 @@
 pub mod Cut
+pub mod Lists
+pub mod Signed
 pub mod Characters
 pub mod Laws
 pub mod Step
@@ -6,6 +8,7 @@ pub mod Globe
 pub mod Poles
 pub mod Halting
 pub mod PlaneLaws
+pub mod Lengths
 pub mod Covering
 pub mod Families
 pub mod LayerLaws

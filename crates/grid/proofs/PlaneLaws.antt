@@ -11,7 +11,8 @@ use lib.IntN.{ℤ, pos, negsuc}
 use lib.ListN.{length, take}
 use borrow.Author.Tests.{ltb-true, leb-true, eqb-true, ltb-false, eqb-false}
 use Rattle.grid.specs.declared.Split.{Split}
-use Rattle.grid.specs.Units.{TURN, HALF, QUARTER, POLAR, side, index, unit, eastward, fromPole, Square, OnGlobe}
+use Rattle.grid.specs.declared.Place.{Place}
+use Rattle.grid.specs.Units.{TURN, HALF, QUARTER, POLAR, side, index, unit, eastward, fromPole, Square, squareOf, OnGlobe}
 use Rattle.grid.specs.Tree.{Tree, Read, ok, bad}
 use Rattle.grid.specs.Splits.{splits, polarCellAt}
 use Rattle.grid.specs.Plane.{
@@ -293,6 +294,9 @@ index-unit false u = refl
 pub side-unit : (b : Bool) (u : ℕ) → side (unit b u) ≡ b
 side-unit true u = refl
 side-unit false u = refl
+
+pub on-globe : (p : Place) → p .x < HALF → p .y < QUARTER → OnGlobe (squareOf p)
+on-globe p a b = record { longitude-in = rw (index-unit (p .east) (p .x)) a; latitude-in = rw (index-unit (p .north) (p .y)) b }
 
 pub eastward-longitudeAt : (x : ℕ) → x < 2654208000 → eastward (longitudeAt x) ≡ x
 eastward-longitudeAt x h = go (ltb x HALF) refl

@@ -1,7 +1,7 @@
 -- The two constant tables, as src/lib.rt has them: the splits of the ten levels, and where the sixteen polar cells of level 2 begin.
 -- Assumes nothing.
 use mathlib.Core.List.{List, [], _∷_}
-use Prim.Native.Nat.{ℕ}
+use Prim.Native.Nat.{ℕ, _-_}
 use lib.ListN.{getD}
 use Rattle.grid.specs.declared.Split.{Split}
 use Rattle.grid.specs.declared.PolarCell.{PolarCell}
@@ -38,6 +38,10 @@ splits =
 -- place k is level k + 1
 abbrev pub splitAt : ℕ → Split
 splitAt k = getD splits k (split 0 0 0 0 0 0 0 0)
+
+-- where a level's characters begin in a code
+abbrev pub placeOf : Split → ℕ
+placeOf t = t .length - t .characters
 
 -- the west edge in eastward units, and the latitude index of the edge farther from the pole
 abbrev pub begins : ℕ → ℕ → PolarCell

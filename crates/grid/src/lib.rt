@@ -2,7 +2,9 @@
 // What the rules mean stands in specs/, and the theorems over them in proofs/Theorems.antt.
 
 ghost use mathlib.Core.Path.{_≡_};
-ghost use Prim.Native.Nat.{_<_};
+ghost use Prim.Native.Nat.{_+_, _≤_, _<_};
+ghost use Rattle.grid.specs.Units.{side, index, unit};
+ghost use Rattle.grid.specs.Plane.{letter, least};
 ghost use Rattle.grid.specs.Splits.{splitAt, polarCellAt};
 ghost use Rattle.grid.specs.Characters.{charOf, digitOf};
 
@@ -276,4 +278,47 @@ pub fn digit(b: u8) -> u32
     }
     let letter = std::num::wrapping_sub_u32(b as u32, 65);
     if letter < 22 { letter + 10 } else { 32 }
+}
+
+// N or S, a code's first character.
+pub fn hemisphere(north: bool) -> u8
+    ensures { λ r. ⌜ r ≡ charOf (letter north) ⌝ }
+{
+    if north { b'N' } else { b'S' }
+}
+
+// ---- signed numbers, by their side of 0 and their outward index
+
+// The outward index of a number: itself where it is 0 or more, -1 less it below.
+pub fn outward(u: i64) -> u64
+    ensures { λ r. ⌜ r ≡ index u ⌝ }
+{
+    if u < 0 { (-1 - u) as u64 } else { u as u64 }
+}
+
+// Which side of 0 it lies on.
+pub fn upper(u: i64) -> bool
+    ensures { λ r. ⌜ r ≡ side u ⌝ }
+{
+    0 <= u
+}
+
+// The number on a side of 0 with an outward index.
+pub fn number_on(up: bool, n: u32) -> i32
+    requires { ⌜ n < 2147483648 ⌝ }
+    ensures { λ r. ⌜ r ≡ unit up n ⌝ }
+{
+    if up { n as i32 } else { -1 - n as i32 }
+}
+
+// The least of the n numbers on a side of 0 whose outward indices are from u on.
+pub fn least_on(up: bool, u: u32, n: u32) -> i32
+    requires { ⌜ (0 < n) × (u + n ≤ 2147483648) ⌝ }
+    ensures { λ r. ⌜ r ≡ least up u n ⌝ }
+{
+    if up {
+        u as i32
+    } else {
+        -1 - (u + n - 1) as i32
+    }
 }

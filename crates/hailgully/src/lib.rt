@@ -5,12 +5,23 @@ ghost use mathlib.Core.Path.{_≡_};
 ghost use Rattle.grid.specs.Answers.{accepted, refused, planeRead};
 ghost use Rattle.grid.specs.Laying.{laid, written};
 ghost use Rattle.grid.specs.Plane.{cellOf};
+ghost use Rattle.grid.specs.Space.{spaceCellOf};
 ghost use Rattle.plane.specs.Text.{planeText};
-ghost use Rattle.hailgully.specs.Results.{noRefusal, refusalOf, writtenOf, planeCellOf};
+ghost use Rattle.space.specs.Space.{spaceText, spaceRead};
+ghost use Rattle.reference.specs.Text.{referenceText, targetText};
+ghost use Rattle.arcseconds.specs.Readings.{unitsOf, unitsRead};
+ghost use Rattle.arcseconds.specs.Boxes.{BoxOf};
+ghost use Rattle.hailgully.specs.Results.{noRefusal, refusalOf, writtenOf, planeCellOf, spaceCellFor, unitsFor, boxWith, zeroCell, BoxIs, BoxFor};
+use arcseconds::ArcBox;
+use arcseconds::BoxRead;
+use arcseconds::Units;
+use arcseconds::UnitsRead;
 use grid::Cell;
 use grid::PlaneRead;
 use grid::Refusal;
+use grid::SpaceCell;
 use grid::Written;
+use space::SpaceRead;
 
 #[repr(C)]
 pub struct HgRefusal {
@@ -33,6 +44,34 @@ pub struct HgPlaneCell {
     pub south: i32,
     pub width: u32,
     pub height: u32,
+}
+
+#[repr(C)]
+pub struct HgSpaceCell {
+    pub refusal: HgRefusal,
+    pub level: u32,
+    pub west: i32,
+    pub south: i32,
+    pub width: u32,
+    pub height: u32,
+    pub floor: i32,
+    pub thickness: u32,
+}
+
+#[repr(C)]
+pub struct HgUnits {
+    pub refusal: HgRefusal,
+    pub longitude: i32,
+    pub latitude: i32,
+}
+
+#[repr(C)]
+pub struct HgBox {
+    pub refusal: HgRefusal,
+    pub west: f64,
+    pub south: f64,
+    pub width: f64,
+    pub height: f64,
 }
 
 fn no_refusal() -> HgRefusal
@@ -105,6 +144,106 @@ fn plane_cell_of(r: PlaneRead) -> HgPlaneCell
     }
 }
 
+fn space_found(c: SpaceCell) -> HgSpaceCell
+    ensures { λ r. ⌜ r ≡ spaceCellFor (accepted c) ⌝ }
+{
+    let p = c.cell;
+    HgSpaceCell {
+        refusal: no_refusal(),
+        level: p.level,
+        west: p.west,
+        south: p.south,
+        width: p.width,
+        height: p.height,
+        floor: c.floor,
+        thickness: c.thickness,
+    }
+}
+
+fn space_refused(r: Refusal) -> HgSpaceCell
+    ensures { λ s. ⌜ s ≡ spaceCellFor (refused r) ⌝ }
+{
+    HgSpaceCell {
+        refusal: refusal_of(r),
+        level: 0,
+        west: 0,
+        south: 0,
+        width: 0,
+        height: 0,
+        floor: 0,
+        thickness: 0,
+    }
+}
+
+fn space_cell_of(r: SpaceRead) -> HgSpaceCell
+    ensures { λ s. ⌜ s ≡ spaceCellFor (spaceRead r) ⌝ }
+{
+    match r {
+        SpaceRead::Found(c) => space_found(c),
+        SpaceRead::Refused(q) => space_refused(q),
+    }
+}
+
+fn units_found(u: Units) -> HgUnits
+    ensures { λ r. ⌜ r ≡ unitsFor (accepted u) ⌝ }
+{
+    HgUnits {
+        refusal: no_refusal(),
+        longitude: u.longitude,
+        latitude: u.latitude,
+    }
+}
+
+fn units_refused(r: Refusal) -> HgUnits
+    ensures { λ s. ⌜ s ≡ unitsFor (refused r) ⌝ }
+{
+    HgUnits {
+        refusal: refusal_of(r),
+        longitude: 0,
+        latitude: 0,
+    }
+}
+
+fn units_of(r: UnitsRead) -> HgUnits
+    ensures { λ s. ⌜ s ≡ unitsFor (unitsRead r) ⌝ }
+{
+    match r {
+        UnitsRead::Found(u) => units_found(u),
+        UnitsRead::Refused(q) => units_refused(q),
+    }
+}
+
+fn boxed(q: HgRefusal, b: ArcBox) -> HgBox
+    ensures { λ r. ⌜ r ≡ boxWith q b ⌝ }
+{
+    HgBox {
+        refusal: q,
+        west: b.west,
+        south: b.south,
+        width: b.width,
+        height: b.height,
+    }
+}
+
+// Four times +0.0.
+fn zeros() -> ArcBox
+    ensures { λ r. ⌜ BoxOf zeroCell r ⌝ }
+{
+    arcseconds::box_of(Cell {
+        level: 0,
+        west: 0,
+        south: 0,
+        width: 0,
+        height: 0,
+    })
+}
+
+fn box_refused(r: Refusal) -> HgBox
+    ensures { λ b. ⌜ BoxIs (refusalOf r) zeroCell b ⌝ }
+{
+    boxed(refusal_of(r), zeros())
+}
+
 // Writes the plane code of a level for a position. Refusals, in order: 1, 2, 3, 5.
 #[no_mangle]
 pub extern "C" fn hg_plane_write(
@@ -125,4 +264,67 @@ pub extern "C" fn hg_plane_read(code: &[u8]) -> HgPlaneCell
     ensures { λ r. ⌜ r ≡ planeCellOf (cellOf (now (code .entry))) ⌝ }
 {
     plane_cell_of(plane::read(code))
+}
+
+// Writes the space code of a level for a position and a layer. Refusals, in order: 1, 2, 3, 4, 5.
+#[no_mangle]
+pub extern "C" fn hg_space_write(
+    level: i64,
+    longitude: i64,
+    latitude: i64,
+    layer: i64,
+    line: &mut [u8],
+    at: usize,
+) -> HgWritten
+    ensures { λ r. ⌜ (r ≡ writtenOf (laid (spaceText level longitude latitude layer) (now (line .entry)) at .0)) × (now (line .exit) ≡ laid (spaceText level longitude latitude layer) (now (line .entry)) at .1) ⌝ }
+{
+    written_of(space::write(level, longitude, latitude, layer, line, at))
+}
+
+// Reads a space code. Refusals, in order: 6, 7.
+#[no_mangle]
+pub extern "C" fn hg_space_read(code: &[u8]) -> HgSpaceCell
+    ensures { λ r. ⌜ r ≡ spaceCellFor (spaceCellOf (now (code .entry))) ⌝ }
+{
+    space_cell_of(space::read(code))
+}
+
+// Writes the reference code from a base code to a target code. Refusals, in order: 6, 7 of the base; 6, 7 of the target; 8, 9, 10, 5.
+#[no_mangle]
+pub extern "C" fn hg_reference_write(
+    base: &[u8],
+    target: &[u8],
+    line: &mut [u8],
+    at: usize,
+) -> HgWritten
+    ensures { λ r. ⌜ (r ≡ writtenOf (laid (referenceText (now (base .entry)) (now (target .entry))) (now (line .entry)) at .0)) × (now (line .exit) ≡ laid (referenceText (now (base .entry)) (now (target .entry))) (now (line .entry)) at .1) ⌝ }
+{
+    written_of(reference::write(base, target, line, at))
+}
+
+// Reads a reference code and writes the plane code of its target. Refusals, in order: 6, 7, 8, 12, 5.
+#[no_mangle]
+pub extern "C" fn hg_reference_read(code: &[u8], line: &mut [u8], at: usize) -> HgWritten
+    ensures { λ r. ⌜ (r ≡ writtenOf (laid (targetText (now (code .entry))) (now (line .entry)) at .0)) × (now (line .exit) ≡ laid (targetText (now (code .entry))) (now (line .entry)) at .1) ⌝ }
+{
+    written_of(reference::read(code, line, at))
+}
+
+// Arc-seconds to whole units. Refusals, in order: 11, 2, 3.
+#[no_mangle]
+pub extern "C" fn hg_arcseconds(longitude: f64, latitude: f64) -> HgUnits
+    ensures { λ r. ⌜ r ≡ unitsFor (unitsOf longitude latitude) ⌝ }
+{
+    units_of(arcseconds::read(longitude, latitude))
+}
+
+// The box of a plane code in arc-seconds. Refusals, in order: 6, 7.
+#[no_mangle]
+pub extern "C" fn hg_plane_box(code: &[u8]) -> HgBox
+    ensures { λ r. ⌜ BoxFor (cellOf (now (code .entry))) r ⌝ }
+{
+    match arcseconds::plane_box(code) {
+        BoxRead::Found(b) => boxed(no_refusal(), b),
+        BoxRead::Refused(r) => box_refused(r),
+    }
 }

@@ -1,56 +1,25 @@
 -- The height digits straight from a layer's rise: what the writer lays down, level by level.
 -- Assumes nothing.
 use mathlib.Core.Path.{_≡_, refl, sym, _∙_, ap, subst}
-use mathlib.Core.Bool.{Bool, true, false}
+use mathlib.Core.Bool.{Bool, true}
 use mathlib.Core.List.{List, [], _∷_, _++_, map}
 use Prim.Native.Nat.{ℕ, zero, suc, _+_, _-_, _*_, _/_, _%_, _≤_, _<_}
 use native.Mathlib.Omega.{arith}
-use native.Mathlib.Nat.{div-add-mod', div-lt-iff-lt-mul, mod-lt, mod-eq-of-lt, mul-add-mod-self-right, mul-add-div-right, mul-assoc, add-mul, mul-pos, mul-div-right}
+use native.Mathlib.Nat.{div-lt-iff-lt-mul, mod-lt, mul-div-right}
 use native.Mathlib.Numerals.{add-one}
 use lib.IntN.{ℤ}
 use lib.ListN.{length, getD, take, drop, length-take}
 use lib.Seq.{take-take, take-suc}
-use borrow.Author.Tests.{lt-ltb, le-leb}
+use borrow.Author.Tests.{lt-ltb, ltb-true}
 use Rattle.grid.specs.Units.{side, index}
-use Rattle.grid.specs.Tree.{ok, code}
-use Rattle.grid.specs.Layers.{product, rise, sign, part, allChild, layers}
+use Rattle.grid.specs.Tree.{code}
+use Rattle.grid.specs.Layers.{product, rise, sign, part, layers}
 use Rattle.grid.proofs.Cut.{clash, Below}
+pub use Rattle.grid.proofs.Cut.{part-direct, begins-direct}
+use Rattle.grid.proofs.LayerLaws.{sign-small, rise-below, all-read}
 use Rattle.layers.specs.Heights.{later, heightDigits}
 use Rattle.layers.specs.Steps.{fairLater, Fair, thicknessAt, digitAt}
-use Rattle.layers.proofs.Sides.{rise-below}
 use Rattle.layers.proofs.Radices.{later-fair, first-fair, product-some, ten}
-
--- ---- a number X in a segment that is cut into k parts of length d
-
-module _ (X k d : ℕ) (some : 0 < k) (long : 0 < d) where
-  abbrev w : ℕ
-  w = k * d
-
-  -- where the part's own length says: X / d = q · k + the part
-  cut : X / d ≡ X / w * k + X % w / d
-  cut =
-      let e : X / w * w + X % w ≡ X = div-add-mod' X w in
-      let f : X / w * k * d + X % w ≡ X = ap (λ (z : ℕ). z + X % w) (mul-assoc (X / w) k d) ∙ e in
-      ap (λ (z : ℕ). z / d) (sym f) ∙ mul-add-div-right long (X / w * k) (X % w)
-
-  -- which of the parts holds it
-  pub part-direct : (X - X / w * w) / d ≡ X / d % k
-  part-direct =
-      let e : X / w * w + X % w ≡ X = div-add-mod' X w in
-      let a : X - X / w * w ≡ X % w = omega arith in
-      let m : X % w / d < k = div-lt-iff-lt-mul long .1 (mod-lt X (mul-pos some long)) in
-      ap (λ (z : ℕ). z / d) a ∙ sym (ap (λ (z : ℕ). z % k) cut ∙ mul-add-mod-self-right (X / w) k (X % w / d) ∙ mod-eq-of-lt m)
-
-  -- and where that part begins
-  pub begins-direct : X / w * w + X / d % k * d ≡ X / d * d
-  begins-direct =
-      let e : X / w * w + X % w ≡ X = div-add-mod' X w in
-      let a : X - X / w * w ≡ X % w = omega arith in
-      let p : X / d % k ≡ X % w / d = sym part-direct ∙ ap (λ (z : ℕ). z / d) a in
-      ap (λ (z : ℕ). X / w * w + z * d) p
-      ∙ ap (λ (z : ℕ). z + X % w / d * d) (sym (mul-assoc (X / w) k d))
-      ∙ sym (add-mul (X / w * k) (X % w / d) d)
-      ∙ sym (ap (λ (z : ℕ). z * d) cut)
 
 -- ---- the digits of the levels after the first
 
@@ -98,18 +67,6 @@ at-direct (r ∷ rs) X (suc j) h = at-direct rs X j (omega arith)
 
 -- ---- the sign and the two decimal digits
 
-sign-small : (b : Bool) → sign b < 2
-sign-small true = omega arith
-sign-small false = omega arith
-
-all-read : (top r d : ℕ) (b : Bool) → d < r → allChild top r (sign b ∷ (d / 10) ∷ (d % 10) ∷ []) ≡ ok (part b (d * (top / r)) (top / r))
-all-read top r d true h =
-    let e : 10 * (d / 10) + d % 10 ≡ d = omega arith in
-    rw (e, lt-ltb (10 * (d / 10)) r (omega arith), le-leb (d % 10) 9 (omega arith), lt-ltb d r h) refl
-all-read top r d false h =
-    let e : 10 * (d / 10) + d % 10 ≡ d = omega arith in
-    rw (e, lt-ltb (10 * (d / 10)) r (omega arith), le-leb (d % 10) 9 (omega arith), lt-ltb d r h) refl
-
 -- the digits of level l + 1
 abbrev pub straight : ℕ → List ℕ → ℕ → Bool → ℕ → List ℕ
 straight r rs l b X = sign b ∷ (X / product rs / 10) ∷ (X / product rs % 10) ∷ take l (direct rs X)
@@ -124,7 +81,7 @@ height-straight r rs l z e h =
     let p : 0 < P = product-some rs (f .rest) in
     let q : r * P / r ≡ P = mul-div-right P {m = r} (f .more) in
     let d : X / (r * P / r) < r = rw q (div-lt-iff-lt-mul p .1 (rise-below (r * P) z h)) in
-    rw (all-read (r * P) r (X / (r * P / r)) (side z) d, q)
+    rw (all-read (r * P) (side z) r (X / (r * P / r)) d, q)
     (ap (λ ds. sign (side z) ∷ (X / P / 10) ∷ (X / P % 10) ∷ ds) (code-later (r * P) rs l (side z) z (f .rest)))
 
 -- ---- a code's height digits, at every level
@@ -149,7 +106,7 @@ height-small (r ∷ rs) (suc l) z e h =
     let m : r ≤ 100 = f .few in
     let d : X / product rs < r = div-lt-iff-lt-mul (product-some rs (f .rest)) .1 (rise-below (product (r ∷ rs)) z h) in
     subst (Below 32) (sym (height-straight r rs l z e h))
-    (omega (arith, sign-small (side z)), (omega arith, (omega arith, small-direct rs X l (f .rest))))
+    (omega (arith, ltb-true (sign (side z)) 2 (sign-small 0 (side z))), (omega arith, (omega arith, small-direct rs X l (f .rest))))
 
 -- those of a coarser level are the beginning of those of a finer one
 pub height-begins : (rs : List ℕ) (l k : ℕ) (z : ℤ) → Fair rs → index z < product rs → 1 ≤ l → l ≤ k → take (2 + l) (heightDigits rs k z) ≡ heightDigits rs l z

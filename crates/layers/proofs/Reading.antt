@@ -5,7 +5,7 @@ use mathlib.Core.Bool.{Bool, true, false, not, cond, _&&_}
 use mathlib.Core.List.{List, [], _∷_, map}
 use Prim.Native.Nat.{ℕ, zero, suc, _+_, _-_, _*_, _/_, _≤_, _<_}
 use native.Mathlib.Omega.{arith}
-use native.Mathlib.Nat.{mul-div-right, add-assoc}
+use native.Mathlib.Nat.{mul-div-right}
 use native.Mathlib.Numerals.{add-one}
 use lib.Dec.{ltb, leb, eqb}
 use lib.ListN.{length, getD, take, drop, length-take, length-map, drop-of-length-le, List·getD-map}
@@ -15,6 +15,7 @@ use Rattle.grid.specs.Characters.{digitOf}
 use Rattle.grid.specs.Tree.{Read, ok, bad, guard, shift, next, follow}
 use Rattle.grid.specs.Layers.{product, Stack, all, part, allChild}
 use Rattle.grid.proofs.Cut.{clash, and-true, cut-end}
+use Rattle.grid.proofs.Laws.{shift-shift}
 use Rattle.layers.specs.declared.Height.{Height}
 use Rattle.layers.specs.Heights.{later, heightLevels, heightRead, heightOf}
 use Rattle.layers.specs.Steps.{Fair, thicknessAt, Readable, BadAt, First, restOf, Upto}
@@ -125,10 +126,6 @@ level-at : (rs : List ℕ) (k : ℕ) → 1 ≤ k → Fair rs → getD (heightLev
 level-at rs zero l e = absurd (omega arith)
 level-at [] (suc k) l e = clash (let t = e .test in cc)
 level-at (r ∷ rs) (suc k) l e = List·getD-map later rs k 0
-
-shift-shift : {A : Type 0} (i j : ℕ) (r : Read A) → shift i (shift j r) ≡ shift (i + j) r
-shift-shift i j (ok a) = refl
-shift-shift i j (bad p) = ap bad (sym (add-assoc i j p))
 
 module _ (rs : List ℕ) (level k : ℕ) (w : List ℕ) (e : Fair rs) (from : 1 ≤ k) (to : k < 10) (d : Readable level (length w)) where
   -- the level's radix and digit

@@ -16,11 +16,12 @@ use borrow.Author.Tests.{ltb-true, lt-ltb, le-ltb}
 use Rattle.grid.specs.Units.{side, index}
 use Rattle.grid.specs.Layers.{product, rise, part, floorOf}
 use Rattle.grid.proofs.Cut.{clash}
+use Rattle.grid.proofs.Signed.{mirrored-fits, mirrored-back}
+pub use Rattle.grid.proofs.LayerLaws.{rise-below}
 use Rattle.layers.specs.declared.AskedLayer.the-variants.{At, Outside}
 use Rattle.layers.specs.Heights.{layerOf, askedOf}
 use Rattle.layers.specs.Steps.{Fair, thicknessAt}
 use Rattle.layers.proofs.Radices.{product-fits, thick-top}
-use Rattle.layers.proofs.Signed.{mirrored-fits, mirrored-back}
 
 -- ---- the layer on a side with a rise
 
@@ -38,10 +39,6 @@ module _ (top : ℕ) where
   layer-in false n h = omega arith
 
   -- and a layer's side and rise are its own
-  pub rise-below : (z : ℤ) → index z < top → rise top z < top
-  rise-below (pos n) h = h
-  rise-below (negsuc n) h = omega arith
-
   pub layer-back : (z : ℤ) → index z < top → layerOf top (side z) (rise top z) ≡ z
   layer-back (pos n) h = refl
   layer-back (negsuc n) h = ap negsuc (omega arith)

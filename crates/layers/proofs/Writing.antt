@@ -1,19 +1,21 @@
 -- What the stores of each level leave in the line, and what they come to.
 -- Assumes nothing.
 use mathlib.Core.Path.{_≡_, refl, _∙_, ap}
-use mathlib.Core.Bool.{Bool, true, false, cond}
+use mathlib.Core.Bool.{Bool, cond}
 use mathlib.Core.List.{List, [], _∷_, _++_, map, map-append}
 use Prim.Native.Nat.{ℕ, suc, _+_, _/_, _%_, _≤_, _<_, min}
 use native.Mathlib.Omega.{arith}
-use native.Mathlib.Nat.{add-zero, add-suc, suc-add, div-lt-iff-lt-mul, mod-lt}
+use native.Mathlib.Nat.{div-lt-iff-lt-mul, mod-lt}
+use native.Mathlib.Numerals.{add-one}
 use lib.Dec.{ltb}
 use lib.IntN.{ℤ}
 use lib.ListN.{length, getD, set, length-map}
 use lib.Seq.{sets, length-sets}
-use borrow.Author.Tests.{lt-ltb, le-ltb, ltb-true, ltb-false}
+use borrow.Author.Tests.{lt-ltb, le-ltb}
 use Rattle.grid.specs.Characters.{charOf}
 use Rattle.grid.specs.Layers.{product, sign}
 use Rattle.grid.proofs.Cut.{clash}
+use Rattle.grid.proofs.Lists.{sets-next}
 use Rattle.layers.specs.Heights.{heightDigits, layerOf}
 use Rattle.layers.specs.Steps.{Fair, thicknessAt, digitAt, charsAt, Writable}
 use Rattle.layers.proofs.Radices.{first-radix, later-radix, thick-some, thick-step, thick-top}
@@ -59,27 +61,17 @@ one-stored rs level k n t l h s p = rw (p, s, lt-ltb k level h) refl
 
 -- ---- a line in which the height characters are laid down, level by level
 
-sets-append : (l : List ℕ) (i : ℕ) (xs ys : List ℕ) → sets l i (xs ++ ys) ≡ sets (sets l i xs) (i + length xs) ys
-sets-append l i [] ys = rw add-zero
-sets-append l i (x ∷ xs) ys = rw (add-suc, ← suc-add) (sets-append (set l i x) (suc i) xs ys)
-
 module _ (rs : List ℕ) (a : Bool) (n : ℕ) (e : Fair rs) (h : n < product rs) (level : ℕ) (l : List ℕ) where
   abbrev z : ℤ
   z = layerOf (product rs) a n
 
-  added : (k : ℕ) → 1 ≤ k → k < 10 → (q : Bool) → ltb k level ≡ q
-      → sets (sets l 0 (map charOf (heightDigits rs (min level k) z))) (k + 2) (cond q (charOf (digitAt rs k n) ∷ []) []) ≡ sets l 0 (map charOf (heightDigits rs (min level (k + 1)) z))
-  added k b c true f =
-      let g : k < level = ltb-true _ _ f in
-      let u : min level k ≡ k = omega arith in
-      let v : min level (k + 1) ≡ k + 1 = omega arith in
+  added : (k : ℕ) → 1 ≤ k → k < 10
+      → sets (sets l 0 (map charOf (heightDigits rs (min level k) z))) (k + 2) (cond (ltb k level) (charOf (digitAt rs k n) ∷ []) []) ≡ sets l 0 (map charOf (heightDigits rs (min level (k + 1)) z))
+  added k b c =
       let i = layer-in (product rs) a n h in
-      let w : 0 + length (map charOf (heightDigits rs k z)) ≡ k + 2 = omega (arith, length-map (heightDigits rs k z) charOf, height-length rs k z e i b (omega arith)) in
-      rw (u, v, height-more rs k z e i b c, layer-rise (product rs) a n h, map-append, sets-append, w) refl
-  added k b c false f =
-      let g : level ≤ k = ltb-false _ _ f in
-      let u : min level k ≡ min level (k + 1) = omega arith in
-      ap (λ (i : ℕ). sets l 0 (map charOf (heightDigits rs i z))) u
+      let m : heightDigits rs (suc k) z ≡ heightDigits rs k z ++ (digitAt rs k n ∷ []) = rw (← add-one k, height-more rs k z e i b c, layer-rise (product rs) a n h) refl in
+      let w : length (map charOf (heightDigits rs k z)) ≡ k + 2 = omega (arith, length-map (heightDigits rs k z) charOf, height-length rs k z e i b (omega arith)) in
+      sets-next (λ j. map charOf (heightDigits rs j z)) level k (k + 2) l _ refl (omega arith) (λ _. ap (map charOf) m ∙ map-append charOf (heightDigits rs k z) _) w
 
 -- the line l is l₀ with the height characters of a code of a level laid down as far as level k
 pub record LaidTo (k level : ℕ) (rs : List ℕ) (a : Bool) (n : ℕ) (l₀ l : List ℕ) : Type 0 where
@@ -111,7 +103,7 @@ module _ {level n : ℕ} {rs : List ℕ} {a : Bool} {l₀ : List ℕ} where
         writable = still rs level n l m (k + 2) (charsAt rs level k n) (h .writable) f;
         laid = f
             ∙ ap (λ x. sets x (k + 2) (charsAt rs level k n)) (h .laid)
-            ∙ added rs a n (h .radices-fair) (h .writable .rise-in) level l₀ k b c (ltb k level) refl;
+            ∙ added rs a n (h .radices-fair) (h .writable .rise-in) level l₀ k b c;
       }
 
   pub laid-all : {l : List ℕ} → LaidTo 10 level rs a n l₀ l → l ≡ sets l₀ 0 (map charOf (heightDigits rs level (layerOf (product rs) a n)))

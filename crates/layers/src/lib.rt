@@ -6,7 +6,6 @@ ghost use mathlib.Core.List.{map};
 ghost use Prim.Native.Nat.{ℕ, _+_, _≤_, _<_};
 ghost use lib.ListN.{length};
 ghost use lib.Seq.{sets};
-ghost use Rattle.grid.specs.Units.{index};
 ghost use Rattle.grid.specs.Characters.{charOf, digitOf};
 ghost use Rattle.grid.specs.Layers.{radices, product, sign, part, floorOf};
 ghost use Rattle.layers.specs.Heights.{heightDigits, heightRead, layerOf, askedOf, heightOf};
@@ -47,24 +46,13 @@ fn thickness(rs: [u32; 10], k: usize) -> u32
 
 // ---- a layer's side and rise
 
-// The outward index: the layer where it is 0 or more, -1 less the layer below.
-fn outward(layer: i64) -> u64
-    ensures { λ r. ⌜ r ≡ index layer ⌝ }
-{
-    if layer < 0 {
-        (-1 - layer) as u64
-    } else {
-        layer as u64
-    }
-}
-
 // Over any radices: as many layers above ground as they number, and as many below.
 fn ask_over(rs: [u32; 10], layer: i64) -> AskedLayer
     requires { ⌜ Fair rs ⌝ }
     ensures { λ r. ⌜ r ≡ askedOf rs layer ⌝ }
 {
     let top = thickness(rs, 0);
-    let n = outward(layer);
+    let n = grid::outward(layer);
     if top as u64 <= n {
         return AskedLayer::Outside;
     }

@@ -14,6 +14,7 @@ use lib.IntN.{ℤ, pos, negsuc}
 use mir.Syntax.{w32}
 use mir.Val.{SFits, toZ, ofZ}
 use mir.Facts.{toZ-ofZ}
+use Rattle.grid.proofs.Lists.{sets-append}
 use Rattle.grid.specs.declared.Cell.{Cell}
 use Rattle.grid.specs.declared.Refusal.{Refusal}
 use Rattle.grid.specs.declared.PlaneRead.{PlaneRead}
@@ -22,10 +23,6 @@ use Rattle.grid.specs.Answers.{planeRead}
 use Rattle.grid.specs.Units.{side, index}
 use Rattle.grid.proofs.Cut.{clash}
 use Rattle.lines.specs.Text.{MINUS, Laid, decimalIn, decimalOf, numberText, signedText, cornerText, cellText, refusalText, answerText}
-
-sets-append : (l : List ℕ) (i : ℕ) (xs ys : List ℕ) → sets l i (xs ++ ys) ≡ sets (sets l i xs) (i + length xs) ys
-sets-append l i [] ys = rw add-zero
-sets-append l i (x ∷ xs) ys = rw (add-suc, ← suc-add) (sets-append (set l i x) (suc i) xs ys)
 
 -- ---- laying down
 

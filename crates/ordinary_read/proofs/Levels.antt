@@ -4,7 +4,6 @@ use mathlib.Core.Path.{_≡_, refl, sym, _∙_, ap, subst, subst⁻¹}
 use mathlib.Core.Bool.{Bool, true, _&&_}
 use mathlib.Core.List.{List, [], _∷_, map}
 use Prim.Native.Nat.{ℕ, zero, suc, _+_, _-_, _*_, _≤_, _<_}
-use native.Mathlib.Nat.{add-assoc}
 use native.Mathlib.Omega.{arith}
 use lib.Dec.{ltb, leb, eqb}
 use lib.ListN.{length, take, drop}
@@ -17,6 +16,9 @@ use Rattle.grid.specs.Codes.{answer}
 use Rattle.grid.specs.Splits.{splits, splitAt}
 use Rattle.grid.specs.Plane.{Node, sheet, childOf, plane, planeCodes, restOf}
 use Rattle.grid.proofs.Cut.{and-true, allBelow, below}
+use Rattle.grid.proofs.Lists.{take-map, drop-map}
+use Rattle.grid.proofs.Laws.{shift-shift}
+use Rattle.grid.proofs.Lengths.{adds}
 use Rattle.ordinary_read.proofs.Steps.{onward-bad}
 use Rattle.ordinary_read.specs.declared.Cursor.{Cursor}
 use Rattle.ordinary_read.specs.Reading.{readOf, onward, answerOf, Inside, Stands, Divides, Ready, Reached, Started, Onward}
@@ -26,9 +28,6 @@ use Rattle.ordinary_read.specs.Reading.{readOf, onward, answerOf, Inside
 -- a test that each level passes beside the level before it
 each : (f : Split → Split → Bool) → allBelow (λ k. f (splitAt k) (splitAt (suc k))) 9 ≡ true → (k : ℕ) → k < 9 → f (splitAt k) (splitAt (suc k)) ≡ true
 each f e k h = below (λ k. f (splitAt k) (splitAt (suc k))) 9 k e h
-
-lengths : (k : ℕ) → k < 9 → splitAt k .length + splitAt (suc k) .characters ≡ splitAt (suc k) .length
-lengths k h = eqb-true _ _ (each (λ t s. eqb (t .length + s .characters) (s .length)) refl k h)
 
 -- the next level divides a cell of this one
 divides : (k : ℕ) (c : Cursor) → k < 9 → Stands (splitAt k) c → Divides (splitAt (suc k)) c
@@ -40,7 +39,7 @@ divides k c h p =
       high = eqb-true _ _ (each (λ t s. eqb (s .rows * s .height) (t .height)) refl k h) ∙ sym (p .high);
       some-width = ltb-true _ _ (each (λ t s. ltb 0 (s .width)) refl k h);
       some-height = ltb-true _ _ (each (λ t s. ltb 0 (s .height)) refl k h);
-      at = ap (λ (x : ℕ). x + splitAt (suc k) .characters) (p .at) ∙ lengths k h;
+      at = ap (λ (x : ℕ). x + splitAt (suc k) .characters) (p .at) ∙ adds k h;
       some-characters = leb-true _ _ (each (λ t s. leb 1 (s .characters)) refl k h);
       few-characters = leb-true _ _ (each (λ t s. leb (s .characters) 2) refl k h);
       single = λ e. omega (arith, low, high, e);
@@ -63,7 +62,7 @@ module _ {w : List ℕ} {m : Node} (k : ℕ) {c : Cursor} {s : Split} (a : At w 
   pub ready : k < 9 → Ready s (length w) c
   ready h g =
       subst⁻¹ (λ (x : Split). Inside c × (x .length ≤ length w → Divides x c)) e
-      (a .reached g .0, λ l. divides k c h (a .reached g .1 (omega (arith, lengths k h))))
+      (a .reached g .0, λ l. divides k c h (a .reached g .1 (omega (arith, adds k h))))
 
   pub through : {r : Cursor} → Onward s w c r → At w m (suc k) r
   through {r} o =
@@ -73,20 +72,6 @@ module _ {w : List ℕ} {m : Node} (k : ℕ) {c : Cursor} {s : Split} (a : At w 
       }
 
 -- ---- the levels together
-
-take-map : (f : ℕ → ℕ) (n : ℕ) (l : List ℕ) → take n (map f l) ≡ map f (take n l)
-take-map f zero l = refl
-take-map f (suc n) [] = refl
-take-map f (suc n) (x ∷ l) = ap (λ y. f x ∷ y) (take-map f n l)
-
-drop-map : (f : ℕ → ℕ) (n : ℕ) (l : List ℕ) → drop n (map f l) ≡ map f (drop n l)
-drop-map f zero l = refl
-drop-map f (suc n) [] = refl
-drop-map f (suc n) (x ∷ l) = drop-map f n l
-
-shift-shift : {A : Type 0} (i j : ℕ) (r : Read A) → shift i (shift j r) ≡ shift (i + j) r
-shift-shift i j (ok a) = refl
-shift-shift i j (bad p) = ap bad (sym (add-assoc i j p))
 
 -- the first j of the levels ts stand one after another from the place at on and end within n characters; the others end past them
 abbrev cut : ℕ → ℕ → ℕ → List Split → Bool

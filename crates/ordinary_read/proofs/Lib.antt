@@ -1,3 +1,2 @@
-pub mod Signed
 pub mod Steps
 pub mod Levels

@@ -2,14 +2,12 @@
 -- Assumes nothing.
 use mathlib.Core.Path.{_≡_, refl, sym, _∙_, ap}
 use mathlib.Core.Bool.{Bool, true, false, cond, _&&_}
-use mathlib.Core.List.{List, [], _∷_, map}
-use Prim.Native.Nat.{ℕ, suc, _+_, _-_, _*_, _/_, _%_, _≤_, _<_}
+use mathlib.Core.List.{List, [], _∷_}
+use Prim.Native.Nat.{ℕ, _+_, _-_, _*_, _/_, _%_, _≤_, _<_}
 use native.Mathlib.Omega.{arith}
-use native.Mathlib.Numerals.{add-one}
 use lib.Dec.{ltb, leb}
 use lib.IntN.{ℤ}
-use lib.ListN.{length, getD, take, drop}
-use lib.Seq.{drop-cons}
+use lib.ListN.{length, getD}
 use borrow.Author.Tests.{lt-ltb, le-ltb, le-leb, lt-leb}
 use Rattle.grid.specs.declared.Split.{Split}
 use Rattle.grid.specs.Characters.{digitOf}
@@ -18,6 +16,7 @@ use Rattle.grid.specs.Splits.{first}
 use Rattle.grid.specs.Answers.{accepted, refused, wrongCharacter}
 use Rattle.grid.specs.Plane.{Node, cell, ordinary, Form, pair, quad, formOf, plainPart, sub, sheet, readAs, least, cellFrom, planeCodes}
 use Rattle.grid.proofs.Cut.{clash, cut-end}
+use Rattle.grid.proofs.Lists.{map-one, map-two}
 use Rattle.ordinary_read.specs.declared.Cursor.{Cursor}
 use Rattle.ordinary_read.specs.Reading.{boxOf, readOf, digitsIn, onward, answerOf, Inside, Divides, Ready, Started, Child, Onward}
 
@@ -134,12 +133,6 @@ single-guards at l p true true x t e = refl
 single-guards at l p true false x t e = ap bad (sym e)
 single-guards at l p false b x t e = clash (cc)
 
-one-digit : (w : List ℕ) (at : ℕ) → at + 1 ≤ length w → map digitOf (take 1 (drop at w)) ≡ digitOf (getD w at 0) ∷ []
-one-digit w at h = rw (drop-cons w at 0 (omega arith)) refl
-
-two-digits : (w : List ℕ) (at : ℕ) → at + 2 ≤ length w → map digitOf (take 2 (drop at w)) ≡ digitOf (getD w at 0) ∷ digitOf (getD w (at + 1) 0) ∷ []
-two-digits w at h = rw (drop-cons w at 0 (omega arith), drop-cons w (suc at) 0 (omega arith), add-one at) refl
-
 module _ (s : Split) (w : List ℕ) (c : Cursor) (h : s .length ≤ length w) (g : c .good ≡ true) (d : Divides s c) where
   -- the child of the cursor's cell
   abbrev childAt : ℕ → ℕ → Node
@@ -157,7 +150,7 @@ module _ (s : Split) (w : List ℕ) (c : Cursor) (h : s .length ≤ length w) (g
       → Child s a b c r → Onward s w c r
   onward-pair a b r t p q k =
       let two : s .characters ≡ 2 = omega (arith, d .some-characters, d .few-characters) in
-      let l : digitsIn s w ≡ a ∷ b ∷ [] = rw (here, two, p, q) (two-digits w (c .place) (omega (arith, d .at))) in
+      let l : digitsIn s w ≡ a ∷ b ∷ [] = rw (here, two, p, q) (map-two digitOf w (c .place) (omega (arith, d .at))) in
       record {
         read = k .read ∙ pair-guards (c .place) (s .length - 1) (ltb a (s .columns)) (ltb b (s .rows)) (childAt a b) (omega (arith, d .at)) ∙ sym (goes-on pair (a ∷ b ∷ []) (rw two refl) l);
         reached = λ x. (k .reached x .0, λ _. k .reached x .1);
@@ -166,7 +159,7 @@ module _ (s : Split) (w : List ℕ) (c : Cursor) (h : s .length ≤ length w) (g
   pub onward-single : (a : ℕ) (r : Cursor) → s .characters ≡ 1 → a ≡ digitOf (getD w (c .place) 0)
       → Child s (a % 2) (a / 2) c r → Onward s w c r
   onward-single a r t p k =
-      let l : digitsIn s w ≡ a ∷ [] = rw (here, t, p) (one-digit w (c .place) (omega (arith, d .at))) in
+      let l : digitsIn s w ≡ a ∷ [] = rw (here, t, p) (map-one digitOf w (c .place) (omega (arith, d .at))) in
       let two : s .columns ≡ 2 = d .single t in
       record {
         read = k .read ∙ single-guards (c .place) (s .length - 1) (c .place) (ltb (a % 2) (s .columns)) (ltb (a / 2) (s .rows)) (childAt (a % 2) (a / 2)) (lt-ltb (a % 2) (s .columns) (omega arith)) (omega (arith, d .at)) ∙ sym (goes-on quad (a ∷ []) (rw (t, two) refl) l);

@@ -3,12 +3,11 @@
 
 ghost use mathlib.Core.Path.{_≡_};
 ghost use mathlib.Core.Bool.{true};
-ghost use Prim.Native.Nat.{_+_, _≤_, _<_};
+ghost use Prim.Native.Nat.{_≤_, _<_};
 ghost use lib.ListN.{length};
-ghost use Rattle.grid.specs.Units.{HALF};
 ghost use Rattle.grid.specs.Tree.{bad};
 ghost use Rattle.grid.specs.Answers.{planeRead};
-ghost use Rattle.grid.specs.Plane.{sheet, least, restOf};
+ghost use Rattle.grid.specs.Plane.{sheet, restOf};
 ghost use Rattle.ordinary_read.specs.Reading.{
   readOf,
   answerOf,
@@ -37,18 +36,6 @@ pub struct Cursor {
     pub y: u32,
     pub width: u32,
     pub height: u32,
-}
-
-// The least of the n numbers on a side whose outward indices are from u on: 0 and up, or below 0.
-fn edge(up: bool, u: u32, n: u32) -> i32
-    requires { ⌜ (0 < n) × (u + n ≤ HALF) ⌝ }
-    ensures { λ r. ⌜ r ≡ least up u n ⌝ }
-{
-    if up {
-        u as i32
-    } else {
-        -1 - (u + n - 1) as i32
-    }
 }
 
 impl Cursor {
@@ -139,8 +126,8 @@ impl Cursor {
         }
         PlaneRead::Found(Cell {
             level: level,
-            west: edge(self.east, self.x, self.width),
-            south: edge(self.north, self.y, self.height),
+            west: grid::least_on(self.east, self.x, self.width),
+            south: grid::least_on(self.north, self.y, self.height),
             width: self.width,
             height: self.height,
         })

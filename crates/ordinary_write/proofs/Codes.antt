@@ -1,32 +1,28 @@
 -- The code of an ordinary place, level by level: what each level adds to it, and where.
 -- Assumes nothing.
 use mathlib.Core.Path.{_≡_, refl, sym, _∙_, ap}
-use mathlib.Core.Bool.{Bool, true, false, cond, _&&_}
+use mathlib.Core.Bool.{true, cond, _&&_}
 use mathlib.Core.List.{List, [], _∷_, _++_, append-assoc, append-nil, map, map-append}
 use Prim.Native.Nat.{ℕ, zero, suc, _+_, _≤_, _<_, min}
 use native.Mathlib.Omega.{arith}
-use native.Mathlib.Nat.{add-zero, zero-add, add-suc, suc-add}
-use lib.Dec.{ltb, eqb}
-use lib.ListN.{length, take, drop, set, length-map}
+use lib.Dec.{ltb}
+use lib.ListN.{length, take, drop}
 use lib.Seq.{sets, take-suc, length-sets}
-use borrow.Author.Tests.{ltb-true, eqb-true, ltb-false}
+use borrow.Author.Tests.{ltb-true}
 use Rattle.grid.specs.declared.Place.{Place}
 use Rattle.grid.specs.declared.Split.{Split}
 use Rattle.grid.specs.Units.{Square, OnGlobe, squareOf}
 use Rattle.grid.specs.Characters.{charOf}
 use Rattle.grid.specs.Tree.{code}
 use Rattle.grid.specs.Codes.{codeIn}
-use Rattle.grid.specs.Splits.{split, splits, splitAt}
+use Rattle.grid.specs.Splits.{split, splits, splitAt, placeOf}
 use Rattle.grid.specs.Plane.{globe, globeDigits, plane, planeCodes, codeOf}
-use Rattle.grid.proofs.Cut.{and-true, below}
-use Rattle.grid.proofs.Laws.{total, length-code}
-use Rattle.grid.proofs.PlaneLaws.{index-unit, splits-fit, laws}
-use Rattle.ordinary_write.specs.Writing.{Writable, digitsIn, startOf, charsAt}
+use Rattle.grid.proofs.Cut.{and-true}
+use Rattle.grid.proofs.Lists.{sets-next}
+use Rattle.grid.proofs.PlaneLaws.{index-unit, on-globe, splits-fit}
+use Rattle.grid.proofs.Lengths.{code-start}
+use Rattle.ordinary_write.specs.Writing.{Writable, digitsIn, charsAt}
 use Rattle.ordinary_write.proofs.Direct.{direct, direct-more, code-plain}
-
-pub sets-append : (l : List ℕ) (i : ℕ) (xs ys : List ℕ) → sets l i (xs ++ ys) ≡ sets (sets l i xs) (i + length xs) ys
-sets-append l i [] ys = rw add-zero
-sets-append l i (x ∷ xs) ys = rw (add-suc, ← suc-add) (sets-append (set l i x) (suc i) xs ys)
 
 -- the levels after the first
 abbrev later : List Split
@@ -37,7 +33,7 @@ module _ (p : Place) (hx : p .x < 1327104000) (hy : p .y < 648806400) where
   s = squareOf p
 
   on : OnGlobe s
-  on = record { longitude-in = rw index-unit hx; latitude-in = rw index-unit (omega arith) }
+  on = on-globe p hx (omega arith)
 
   -- the digits of level j + 1: those of level 1, and the others straight from the indices
   plain : (j : ℕ) → j < 10 → code plane (take (suc j) splits) globe s ≡ globeDigits s ++ direct (take j later) (p .x) (p .y)
@@ -59,27 +55,12 @@ module _ (p : Place) (hx : p .x < 1327104000) (hy : p .y < 648806400) where
       ∙ ap (λ z. z ++ digitsIn (splitAt (suc j)) (p .x) (p .y)) (sym (plain j (omega arith))))
       ∙ map-append charOf (code plane (take (suc j) splits) globe s) _
 
-  -- and those begin where the code of level k ends
-  code-length : (k : ℕ) → k < 10 → length (codeOf k s) ≡ startOf k
-  unfolding codeOf codeIn planeCodes total
-  code-length k h =
-      length-map (code plane (take k splits) globe s) charOf
-      ∙ length-code plane laws (take k splits) globe s (splits-fit k (omega arith)) on
-      ∙ eqb-true _ _ (below (λ k. eqb (total plane (take k splits)) (startOf k)) 10 k refl h)
-
-  module _ (level : ℕ) (l : List ℕ) where
-    added : (k : ℕ) → 1 ≤ k → k < 10 → (q : Bool) → ltb k level ≡ q
-        → sets (sets l 0 (codeOf (min level k) s)) (startOf k) (cond q (map charOf (digitsIn (splitAt k) (p .x) (p .y))) []) ≡ sets l 0 (codeOf (min level (k + 1)) s)
-    added zero a b q e = absurd (omega arith)
-    added (suc j) a b true e =
-        let h : suc j < level = ltb-true _ _ e in
-        let u : min level (suc j) ≡ suc j = omega arith in
-        let v : min level (suc j + 1) ≡ suc (suc j) = omega arith in
-        rw (u, v, code-suc j b, sets-append, zero-add, code-length (suc j) b) refl
-    added (suc j) a b false e =
-        let h : level ≤ suc j = ltb-false _ _ e in
-        let u : min level (suc j) ≡ min level (suc j + 1) = omega arith in
-        ap (λ (i : ℕ). sets l 0 (codeOf i s)) u
+  -- which begin where the code of level k ends
+  added : (level : ℕ) (l : List ℕ) (k : ℕ) → 1 ≤ k → k < 10
+      → sets (sets l 0 (codeOf (min level k) s)) (placeOf (splitAt k)) (cond (ltb k level) (map charOf (digitsIn (splitAt k) (p .x) (p .y))) []) ≡ sets l 0 (codeOf (min level (k + 1)) s)
+  added level l zero a b = absurd (omega arith)
+  added level l (suc j) a b =
+      sets-next (λ i. codeOf i s) level (suc j) (placeOf (splitAt (suc j))) l _ refl (omega arith) (λ h. code-suc j b) (code-start (suc j) s on b)
 
 -- ---- a line in which a code is laid down, level by level
 
@@ -100,16 +81,16 @@ module _ {level : ℕ} {p : Place} {l₀ : List ℕ} where
       let u : 1 ≡ min level 1 = omega (arith, h .some-level) in
       record { writable = still 0 (codeOf 1 (squareOf p)) h e; laid = e ∙ ap (λ (i : ℕ). sets l₀ 0 (codeOf i (squareOf p))) u }
 
-  pub laid-more : (k : ℕ) {l m : List ℕ} → (ltb 0 k && ltb k 10) ≡ true → LaidTo k level p l₀ l → m ≡ sets l (startOf k) (charsAt level k p) → LaidTo (k + 1) level p l₀ m
+  pub laid-more : (k : ℕ) {l m : List ℕ} → (ltb 0 k && ltb k 10) ≡ true → LaidTo k level p l₀ l → m ≡ sets l (placeOf (splitAt k)) (charsAt level k p) → LaidTo (k + 1) level p l₀ m
   unfolding charsAt
   laid-more k {l} {m} t h e =
       let b = and-true (ltb 0 k) (ltb k 10) t in
       let w = h .writable in
       record {
-        writable = still (startOf k) (charsAt level k p) w e;
+        writable = still (placeOf (splitAt k)) (charsAt level k p) w e;
         laid = e
-            ∙ ap (λ z. sets z (startOf k) (charsAt level k p)) (h .laid)
-            ∙ added p (w .x-in) (w .y-in) level l₀ k (ltb-true 0 k (b .0)) (ltb-true k 10 (b .1)) (ltb k level) refl;
+            ∙ ap (λ z. sets z (placeOf (splitAt k)) (charsAt level k p)) (h .laid)
+            ∙ added p (w .x-in) (w .y-in) level l₀ k (ltb-true 0 k (b .0)) (ltb-true k 10 (b .1));
       }
 
   pub laid-all : {l : List ℕ} → LaidTo 10 level p l₀ l → l ≡ sets l₀ 0 (codeOf level (squareOf p))

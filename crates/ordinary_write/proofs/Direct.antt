@@ -1,13 +1,11 @@
 -- The digits of an ordinary place straight from its outward indices: the tree's digits, which go down cell by cell, are those.
 -- Assumes nothing.
 use mathlib.Core.Path.{_≡_, refl, sym, _∙_, ap, subst}
-use mathlib.Core.Bool.{Bool, true, false}
+use mathlib.Core.Bool.{Bool, true}
 use mathlib.Core.List.{List, [], _∷_, _++_, append-assoc}
 use mathlib.Core.Logic.{_⊎_, inl, inr}
 use Prim.Native.Nat.{ℕ, _+_, _-_, _*_, _/_, _%_, _<_}
 use native.Mathlib.Omega.{arith}
-use native.Mathlib.Nat.{div-add-mod', div-lt-iff-lt-mul, mod-lt, mod-eq-of-lt, mul-add-mod-self-right, mul-add-div-right, mul-assoc, add-mul}
-use lib.Dec.{eqb}
 use lib.IntN.{ℤ, pos, negsuc}
 use borrow.Author.Tests.{lt-ltb, le-leb, lt-leb}
 use Rattle.grid.specs.declared.Split.{Split}
@@ -15,37 +13,11 @@ use Rattle.grid.specs.Units.{POLAR, side, index, Square, OnGlobe}
 use Rattle.grid.specs.Tree.{ok, code}
 use Rattle.grid.specs.Splits.{first}
 use Rattle.grid.specs.Plane.{ordinary, Box, Node, globe, cell, plainPart, letter, zone, globeDigits, sheet, globeChild, cellDigits, plane}
+use Rattle.grid.proofs.Cut.{part-direct, part-begins}
 use Rattle.grid.proofs.Step.{In, InCell, boxOf, cell-read, cell-into}
-use Rattle.grid.proofs.Globe.{Sheet, Pole, globe-cases, globe-here}
-use Rattle.grid.proofs.PlaneLaws.{fitsGlobe, Good, GoodCell, cell-exact, cell-positive, good}
+use Rattle.grid.proofs.Globe.{Sheet, Pole, letter-north, globe-cases, globe-here}
+use Rattle.grid.proofs.PlaneLaws.{fitsGlobe, Good, GoodCell, cell-exact, good}
 use Rattle.ordinary_write.specs.Writing.{columnIn, rowIn, digitsIn}
-
--- ---- one axis: X in cells of width w, each of k parts of width d
-
-module _ (X k d : ℕ) (p : 0 < d) (pw : 0 < k * d) where
-  -- X in parts: those of the whole cells before it, and those in its own
-  parts : X / d ≡ X / (k * d) * k + X % (k * d) / d
-  parts =
-      let e : X / (k * d) * k * d + X % (k * d) ≡ X = ap (λ (z : ℕ). z + X % (k * d)) (mul-assoc (X / (k * d)) k d) ∙ div-add-mod' X (k * d) in
-      ap (λ (z : ℕ). z / d) (sym e) ∙ mul-add-div-right p (X / (k * d) * k) (X % (k * d))
-
-  rest : X - X / (k * d) * (k * d) ≡ X % (k * d)
-  rest = let e : X / (k * d) * (k * d) + X % (k * d) ≡ X = div-add-mod' X (k * d) in omega arith
-
-  -- in the cell that holds X the part is X / d % k
-  part-direct : (X - X / (k * d) * (k * d)) / d ≡ X / d % k
-  part-direct =
-      let m : X % (k * d) / d < k = div-lt-iff-lt-mul p .1 (mod-lt X pw) in
-      ap (λ (z : ℕ). z / d) rest
-      ∙ sym (ap (λ (z : ℕ). z % k) parts ∙ mul-add-mod-self-right (X / (k * d)) k (X % (k * d) / d) ∙ mod-eq-of-lt m)
-
-  -- and the part begins where its own width says
-  part-begins : X / (k * d) * (k * d) + (X - X / (k * d) * (k * d)) / d * d ≡ X / d * d
-  part-begins =
-      ap (λ (z : ℕ). X / (k * d) * (k * d) + z / d * d) rest
-      ∙ ap (λ (z : ℕ). z + X % (k * d) / d * d) (sym (mul-assoc (X / (k * d)) k d))
-      ∙ sym (add-mul (X / (k * d) * k) (X % (k * d) / d) d)
-      ∙ sym (ap (λ (z : ℕ). z * d) parts)
 
 -- ---- the two axes, level by level
 
@@ -79,15 +51,12 @@ module _ (n e : Bool) (s : Square) where
       let b = boxAt w h X Y in
       let p = plainPart t in
       let E = cell-exact t ts f b g in
-      let o = cell-positive (t ∷ ts) f b g in
-      let ow : 0 < t .columns * t .width = subst (λ (z : ℕ). 0 < z) (sym (E .wide)) (o .0) in
-      let oh : 0 < t .rows * t .height = subst (λ (z : ℕ). 0 < z) (sym (E .high)) (o .1) in
-      let c : (X - X / w * w) / t .width ≡ columnIn t X = subst (λ (z : ℕ). (X - X / z * z) / t .width ≡ columnIn t X) (E .wide) (part-direct X (t .columns) (t .width) (E .some-w) ow) in
-      let r : (Y - Y / h * h) / t .height ≡ rowIn t Y = subst (λ (z : ℕ). (Y - Y / z * z) / t .height ≡ rowIn t Y) (E .high) (part-direct Y (t .rows) (t .height) (E .some-h) oh) in
+      let c : (X - X / w * w) / t .width ≡ columnIn t X = subst (λ (z : ℕ). (X - X / z * z) / t .width ≡ columnIn t X) (E .wide) (part-direct X (t .columns) (t .width) (E .some-c) (E .some-w)) in
+      let r : (Y - Y / h * h) / t .height ≡ rowIn t Y = subst (λ (z : ℕ). (Y - Y / z * z) / t .height ≡ rowIn t Y) (E .high) (part-direct Y (t .rows) (t .height) (E .some-r) (E .some-h)) in
       let cx : X / w * w + (X - X / w * w) / t .width * t .width ≡ X / t .width * t .width =
-      subst (λ (z : ℕ). X / z * z + (X - X / z * z) / t .width * t .width ≡ X / t .width * t .width) (E .wide) (part-begins X (t .columns) (t .width) (E .some-w) ow) in
+      subst (λ (z : ℕ). X / z * z + (X - X / z * z) / t .width * t .width ≡ X / t .width * t .width) (E .wide) (part-begins X (t .columns) (t .width) (E .some-c) (E .some-w)) in
       let ry : Y / h * h + (Y - Y / h * h) / t .height * t .height ≡ Y / t .height * t .height =
-      subst (λ (z : ℕ). Y / z * z + (Y - Y / z * z) / t .height * t .height ≡ Y / t .height * t .height) (E .high) (part-begins Y (t .rows) (t .height) (E .some-h) oh) in
+      subst (λ (z : ℕ). Y / z * z + (Y - Y / z * z) / t .height * t .height ≡ Y / t .height * t .height) (E .high) (part-begins Y (t .rows) (t .height) (E .some-r) (E .some-h)) in
       let m = cell-read (t .characters) p f b E s i in
       let q : boxOf (t .characters) p f b E s ≡ boxAt (t .width) (t .height) X Y =
       λ j. record { x = cx j; w = t .width; y = ry j; h = t .height } in
@@ -106,10 +75,6 @@ sheet-box n (pos x) Y h =
 sheet-box n (negsuc x) Y h =
     let e : 30 - (30 - x / 44236800) ≡ x / 44236800 = omega arith in
     rw (lt-leb 31 (30 - x / 44236800) (omega arith), e) refl
-
-letter-north : (n : Bool) → eqb (letter n) 23 ≡ n
-letter-north true = refl
-letter-north false = refl
 
 -- the node that a sheet's four digits lead to
 sheet-node : (n : Bool) (z r : ℕ) (m : Node) → globeChild (letter n ∷ (z / 10) ∷ (z % 10) ∷ (10 + r) ∷ []) ≡ ok m → sheet n z r ≡ m

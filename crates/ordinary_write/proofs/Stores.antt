@@ -1,7 +1,7 @@
 -- What the stores of one level leave, and what the table says of that level.
 -- Assumes nothing.
 use mathlib.Core.Path.{_≡_, refl, ap, subst⁻¹}
-use mathlib.Core.Bool.{Bool, true, false}
+use mathlib.Core.Bool.{Bool, true}
 use mathlib.Core.List.{List, map}
 use Prim.Native.Nat.{ℕ, zero, suc, _+_, _-_, _*_, _/_, _%_, _≤_, _<_}
 use native.Mathlib.Omega.{arith}
@@ -17,11 +17,13 @@ use Rattle.grid.specs.Units.{POLAR, unit, squareOf}
 use Rattle.grid.specs.Characters.{charOf}
 use Rattle.grid.specs.Tree.{code}
 use Rattle.grid.specs.Codes.{codeIn}
-use Rattle.grid.specs.Splits.{splitAt}
+use Rattle.grid.specs.Splits.{splitAt, placeOf}
 use Rattle.grid.specs.Plane.{letter, zone, planeCodes, codeOf}
 use Rattle.grid.proofs.Cut.{allBelow, below}
+use Rattle.grid.proofs.Globe.{zone-high}
 use Rattle.grid.proofs.PlaneLaws.{index-unit, side-unit}
-use Rattle.ordinary_write.specs.Writing.{Writable, Later, columnIn, rowIn, digitsIn, startOf, charsAt}
+use Rattle.grid.proofs.Lengths.{grows}
+use Rattle.ordinary_write.specs.Writing.{Writable, Later, columnIn, rowIn, digitsIn, charsAt}
 
 -- ---- a level after the first
 
@@ -53,9 +55,7 @@ each f t {k} {s} h = go k (h .later) (h .ten) (h .is)
 -- a code's room is room for each of its levels
 pub room-at : {level : ℕ} {p : Place} {line : List ℕ} → Writable level p line → (k : ℕ) → k < level → splitAt k .length ≤ length line
 room-at {level} w k b =
-    let t = below (λ n. allBelow (λ k. leb (splitAt k .length) (splitAt n .length)) (suc n)) 10 (level - 1) refl (omega (arith, w .some-level, w .ten-levels)) in
-    let u : splitAt k .length ≤ splitAt (level - 1) .length = leb-true _ _ (below (λ k. leb (splitAt k .length) (splitAt (level - 1) .length)) (suc (level - 1)) k t (omega (arith, w .some-level))) in
-    omega (arith, w .room)
+    omega (arith, w .room, grows k (level - 1) (omega (arith, w .some-level)) (omega (arith, w .some-level, w .ten-levels)))
 
 pub known : {level k : ℕ} {s : Split} {p : Place} {line : List ℕ} → Writable level p line → Later k s → k < level → Known s p line
 known {k = k} {s = s} {p = p} {line = line} w h b =
@@ -80,22 +80,22 @@ known {k = k} {s = s} {p = p} {line = line} w h b =
 
 -- its characters, where the code has the level
 chars-there : {level k : ℕ} {s : Split} (p : Place) (l : List ℕ) → s ≡ splitAt k → k < level
-    → sets l (s .length - s .characters) (map charOf (digitsIn s (p .x) (p .y))) ≡ sets l (startOf k) (charsAt level k p)
+    → sets l (s .length - s .characters) (map charOf (digitsIn s (p .x) (p .y))) ≡ sets l (placeOf (splitAt k)) (charsAt level k p)
 unfolding charsAt
 chars-there {level} {k} {s} p l e h =
     rw (lt-ltb k level h) (ap (λ z. sets l (z .length - z .characters) (map charOf (digitsIn z (p .x) (p .y)))) e)
 
-pub none-stored : {level k : ℕ} (p : Place) (l : List ℕ) → level ≤ k → l ≡ sets l (startOf k) (charsAt level k p)
+pub none-stored : {level k : ℕ} (p : Place) (l : List ℕ) → level ≤ k → l ≡ sets l (placeOf (splitAt k)) (charsAt level k p)
 unfolding charsAt
 none-stored {level} {k} p l h = rw (le-ltb k level h) refl
 
 module _ {level k : ℕ} {s : Split} (p : Place) (l : List ℕ) (e : s ≡ splitAt k) (h : k < level) where
-  pub one-stored : {d : ℕ} → s .characters ≡ 1 → s .columns ≡ 2 → d ≡ charOf (2 * rowIn s (p .y) + columnIn s (p .x)) → set l (s .length - s .characters) d ≡ sets l (startOf k) (charsAt level k p)
+  pub one-stored : {d : ℕ} → s .characters ≡ 1 → s .columns ≡ 2 → d ≡ charOf (2 * rowIn s (p .y) + columnIn s (p .x)) → set l (s .length - s .characters) d ≡ sets l (placeOf (splitAt k)) (charsAt level k p)
   one-stored c b f =
       rw f (rw (ne-eqb (s .characters) 2 (λ z. omega arith), eq-eqb (s .columns) 2 b) at (chars-there p l e h))
 
   pub two-stored : {d d' : ℕ} → s .characters ≡ 2 → d ≡ charOf (columnIn s (p .x)) → d' ≡ charOf (rowIn s (p .y))
-      → set (set l (s .length - s .characters) d) (s .length - s .characters + 1) d' ≡ sets l (startOf k) (charsAt level k p)
+      → set (set l (s .length - s .characters) d) (s .length - s .characters + 1) d' ≡ sets l (placeOf (splitAt k)) (charsAt level k p)
   two-stored c f g =
       rw (f, g, add-one) (rw (eq-eqb (s .characters) 2 c) at (chars-there p l e h))
 
@@ -110,8 +110,7 @@ unfolding charOf
 char-letter r = rw (le-ltb (10 + r) 10 (omega arith)) (omega arith)
 
 pub zone-small : (e : Bool) (x : ℕ) → x < 1327104000 → zone (unit e x) ≤ 60
-zone-small true x h = omega arith
-zone-small false x h = omega arith
+zone-small e x h = zone-high (unit e x) (rw index-unit h)
 
 pub first-stored : (p : Place) (l : List ℕ) {z a r : ℕ} → p .x < 1327104000 → p .y < 648806400 → z ≡ zone (unit (p .east) (p .x)) → a ≡ charOf (letter (p .north)) → r ≡ p .y / 29491200
     → set (set (set (set l 0 a) 1 (48 + z / 10)) 2 (48 + z % 10)) 3 (65 + r) ≡ sets l 0 (codeOf 1 (squareOf p))

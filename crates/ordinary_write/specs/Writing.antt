@@ -38,10 +38,6 @@ rowIn s y = y / s .height % s .rows
 abbrev pub digitsIn : Split → ℕ → ℕ → List ℕ
 digitsIn s x y = write (formOf (s .characters) (s .columns)) (columnIn s x) (rowIn s y)
 
--- where the characters of level k + 1 begin
-abbrev pub startOf : ℕ → ℕ
-startOf k = splitAt k .length - splitAt k .characters
-
 -- the characters of level k + 1 in a code of a level; none where the code ends before them
 unfoldable pub charsAt : ℕ → ℕ → Place → List ℕ
 charsAt level k p = cond (ltb k level) (map charOf (digitsIn (splitAt k) (p .x) (p .y))) []

@@ -6,18 +6,11 @@ ghost use Prim.Native.Nat.{_≤_, _<_};
 ghost use lib.ListN.{length};
 ghost use lib.Seq.{sets};
 ghost use Rattle.grid.specs.Units.{HALF, POLAR, unit, squareOf};
-ghost use Rattle.grid.specs.Characters.{charOf};
-ghost use Rattle.grid.specs.Plane.{letter, zone, codeOf};
-ghost use Rattle.ordinary_write.specs.Writing.{Writable, Later, startOf, charsAt};
+ghost use Rattle.grid.specs.Splits.{splitAt, placeOf};
+ghost use Rattle.grid.specs.Plane.{zone, codeOf};
+ghost use Rattle.ordinary_write.specs.Writing.{Writable, Later, charsAt};
 use grid::Place;
 use grid::Split;
-
-// N or S.
-fn side(north: bool) -> u8
-    ensures { λ r. ⌜ r ≡ charOf (letter north) ⌝ }
-{
-    if north { b'N' } else { b'S' }
-}
 
 // The zone: columns count outward from the prime meridian, 31 and up east, 30 and down west.
 fn zone(east: bool, x: u32) -> u32
@@ -39,7 +32,7 @@ fn put_first(p: Place, line: &mut [u8])
 {
     let s = grid::split_of(0);
     let z = zone(p.east, p.x);
-    line[0] = side(p.north);
+    line[0] = grid::hemisphere(p.north);
     line[1] = (48 + z / 10) as u8;
     line[2] = (48 + z % 10) as u8;
     line[3] = (65 + p.y / s.height) as u8;
@@ -48,7 +41,7 @@ fn put_first(p: Place, line: &mut [u8])
 // Level k + 1, a later one, over its split s: nothing where the code ends before it.
 fn put_level(level: u32, k: u32, s: Split, p: Place, line: &mut [u8])
     requires { ⌜ Writable level p (now line) × Later k s ⌝ }
-    ensures { λ _. ⌜ now (line .exit) ≡ sets (now (line .entry)) (startOf k) (charsAt level k p) ⌝ }
+    ensures { λ _. ⌜ now (line .exit) ≡ sets (now (line .entry)) (placeOf (splitAt k)) (charsAt level k p) ⌝ }
 {
     if level <= k {
         return;

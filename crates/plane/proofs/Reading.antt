@@ -1,28 +1,28 @@
 -- The plane reader's answer, by the length, the first four characters, and the rest. Assumes nothing.
 use mathlib.Core.Path.{_≡_, refl, sym, _∙_, ap, subst}
-use mathlib.Core.Bool.{Bool, true, false, cond}
-use mathlib.Core.List.{List, [], _∷_, map}
+use mathlib.Core.List.{List, [], map}
 use mathlib.Core.Option.{Option, some, none}
-use Prim.Native.Nat.{ℕ, zero, suc, _+_, _-_, _≤_, _<_}
+use Prim.Native.Nat.{ℕ, zero, suc, _-_, _≤_}
 use native.Mathlib.Omega.{arith}
-use lib.Dec.{eqb, leb}
-use lib.ListN.{length, take, drop, getD}
-use borrow.Author.Tests.{eqb-true, leb-true}
-use Rattle.grid.specs.declared.Split.{Split}
+use lib.Dec.{leb}
+use lib.ListN.{length, take, drop}
+use borrow.Author.Tests.{leb-true}
 use Rattle.grid.specs.declared.Cell.{Cell}
-use Rattle.grid.specs.declared.Place.{Place}
-use Rattle.grid.specs.Units.{index, unit, Square, squareOf, OnGlobe}
 use Rattle.grid.specs.Characters.{digitOf}
 use Rattle.grid.specs.Tree.{Read, ok, bad, next, follow}
-use Rattle.grid.specs.Answers.{Answer, accepted, refused, wrongLength, wrongCharacter}
+use Rattle.grid.specs.Answers.{Answer, refused, wrongLength, wrongCharacter}
 use Rattle.grid.specs.Codes.{placeIn, answer, answerAt, readIn}
 use Rattle.grid.specs.Splits.{splits, splitAt}
-use Rattle.grid.specs.Plane.{Node, globe, plane, globeChild, planeCodes, codeOf, cellOf, restOf}
-use Rattle.grid.proofs.Cut.{clash, below}
-use Rattle.grid.proofs.Families.{Sound, lenIn, level-length, length-codeIn}
-use Rattle.grid.proofs.Laws.{total}
+use Rattle.grid.specs.Plane.{Node, plane, globeChild, planeCodes, cellOf, restOf}
+use Rattle.grid.proofs.Cut.{below}
+use Rattle.grid.proofs.Lists.{drop-map}
+use Rattle.grid.proofs.Families.{level-length}
+use Rattle.grid.proofs.Lengths.{total-length}
 use Rattle.grid.proofs.Theorems.{plane-sound}
 use Rattle.plane.specs.Text.{orZero, levelOf}
+-- the grid's laws of how long a code is, and of a place on the globe, passed on
+pub use Rattle.grid.proofs.Lengths.{code-length}
+pub use Rattle.grid.proofs.PlaneLaws.{on-globe}
 
 abbrev lengths : List ℕ
 lengths = map (λ t. t .length) splits
@@ -34,11 +34,6 @@ pub record Leveled (n l : ℕ) : Type 0 where
   pub high : l ≤ 10
   pub long : n ≡ splitAt (l - 1) .length
 
-length-of : (l : ℕ) → 1 ≤ l → l ≤ 10 → lenIn planeCodes l ≡ splitAt (l - 1) .length
-unfolding planeCodes total
-length-of zero a b = absurd (omega arith)
-length-of (suc l) a b = eqb-true _ _ (below (λ l. eqb (lenIn planeCodes (suc l)) (splitAt (suc l - 1) .length)) 10 l refl (omega arith))
-
 pub leveled : (n : ℕ) {l : ℕ} → l ≡ levelOf n → (l ≡ 0 → ⊥) → Leveled n l
 unfolding levelOf planeCodes
 leveled n {l} e h = go (placeIn n 1 lengths) refl
@@ -48,7 +43,7 @@ leveled n {l} e h = go (placeIn n 1 lengths) refl
     go (some k) p =
         let q : l ≡ k = e ∙ ap orZero p in
         let t = level-length planeCodes plane-sound n k p in
-        subst (Leveled n) (sym q) (record { place = p; low = t .0; high = t .1; long = t .2 ∙ length-of k (t .0) (t .1) })
+        subst (Leveled n) (sym q) (record { place = p; low = t .0; high = t .1; long = t .2 ∙ total-length k (t .0) (t .1) })
 
 module _ (w : List ℕ) where
   pub read-none : {l : ℕ} → l ≡ levelOf (length w) → l ≡ 0 → refused wrongLength ≡ cellOf w
@@ -75,25 +70,7 @@ module _ (w : List ℕ) where
 
   pub read-rest : {l : ℕ} {n : Node} {a : Answer Cell} → Leveled (length w) l → ok n ≡ globeChild (take 4 (map digitOf w)) → a ≡ restOf l n w → a ≡ cellOf w
   unfolding restOf planeCodes
-  read-rest {l} {n} t e q = q ∙ ap (λ (d : List ℕ). answer planeCodes l (next 4 (ok n) (λ m. follow plane (drop 1 (take l splits)) m d))) (sym (drop-map 4 w)) ∙ by-first l t (ok n) (sym e)
-    where
-      drop-map : (k : ℕ) (w : List ℕ) → drop k (map digitOf w) ≡ map digitOf (drop k w)
-      drop-map zero w = refl
-      drop-map (suc k) [] = refl
-      drop-map (suc k) (x ∷ w) = drop-map k w
-
--- ---- how long a code is
-
-pub code-length : (l : ℕ) (s : Square) → OnGlobe s → 1 ≤ l → l ≤ 10 → length (codeOf l s) ≡ splitAt (l - 1) .length
-unfolding codeOf planeCodes plane-sound
-code-length l s o a b = length-codeIn planeCodes plane-sound l s o b ∙ length-of l a b
-
-index-unit : (b : Bool) (u : ℕ) → index (unit b u) ≡ u
-index-unit true u = refl
-index-unit false u = refl
-
-pub on-globe : (p : Place) → p .x < 1327104000 → p .y < 663552000 → OnGlobe (squareOf p)
-on-globe p a b = record { longitude-in = rw (index-unit (p .east) (p .x)) a; latitude-in = rw (index-unit (p .north) (p .y)) b }
+  read-rest {l} {n} t e q = q ∙ ap (λ (d : List ℕ). answer planeCodes l (next 4 (ok n) (λ m. follow plane (drop 1 (take l splits)) m d))) (sym (drop-map digitOf 4 w)) ∙ by-first l t (ok n) (sym e)
 
 -- every code has its first four characters
 pub length-four : {n l : ℕ} → Leveled n l → 4 ≤ n

@@ -5,7 +5,7 @@ ghost use mathlib.Core.Path.{_≡_};
 ghost use Prim.Native.Nat.{_+_, _-_, _*_, _≤_, _<_};
 ghost use lib.ListN.{length, getD, take};
 ghost use Rattle.grid.specs.Splits.{splitAt};
-ghost use Rattle.grid.specs.Units.{side, index, squareOf};
+ghost use Rattle.grid.specs.Units.{index, squareOf};
 ghost use Rattle.grid.specs.Characters.{digitOf};
 ghost use Rattle.grid.specs.Answers.{refusal, planeRead};
 ghost use Rattle.grid.specs.Laying.{text, laid, written};
@@ -17,6 +17,8 @@ use grid::Place;
 use grid::PlaneRead;
 use grid::Refusal;
 use grid::Written;
+pub use grid::outward;
+pub use grid::upper;
 ghost use lib.Seq.{sets};
 
 // The length of the codes of a level.
@@ -148,20 +150,6 @@ pub fn refuse(number: u32) -> Refusal
         place: 0,
         ordinal: 1,
     }
-}
-
-// The outward index of a longitude or latitude.
-pub fn outward(u: i64) -> u64
-    ensures { λ r. ⌜ r ≡ index u ⌝ }
-{
-    if u < 0 { (-1 - u) as u64 } else { u as u64 }
-}
-
-// Which side of 0 it lies on.
-pub fn upper(u: i64) -> bool
-    ensures { λ r. ⌜ r ≡ side u ⌝ }
-{
-    0 <= u
 }
 
 // The place of a position on the globe.

@@ -2,19 +2,10 @@
 use mathlib.Core.Path.{_≡_, refl, sym, _∙_, ap}
 use mathlib.Core.List.{List, [], _∷_, _++_}
 use Prim.Native.Nat.{ℕ, _+_}
-use native.Mathlib.Nat.{zero-add, add-assoc}
 use lib.ListN.{take, drop}
 use lib.Seq.{drop-drop}
 use Rattle.grid.specs.Tree.{Read, ok, bad, shift, next, Tree, follow}
-use Rattle.grid.proofs.Laws.{Laws, total, next-ok}
-
-pub shift-zero : {A : Type 0} (r : Read A) → shift 0 r ≡ r
-shift-zero (ok a) = refl
-shift-zero (bad p) = ap bad (zero-add p)
-
-pub shift-shift : {A : Type 0} (i j : ℕ) (r : Read A) → shift i (shift j r) ≡ shift (i + j) r
-shift-shift i j (ok a) = refl
-shift-shift i j (bad p) = ap bad (sym (add-assoc i j p))
+use Rattle.grid.proofs.Laws.{Laws, total, shift-zero, shift-shift, next-ok}
 
 next-shift : {A B : Type 0} (i j : ℕ) (r : Read A) (f g : A → Read B) → ((a : A) → f a ≡ g a) → shift i (next j r f) ≡ next (i + j) (shift i r) g
 next-shift i j (ok a) f g e = shift-shift i j (f a) ∙ ap (shift (i + j)) (e a)

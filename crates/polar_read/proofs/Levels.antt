@@ -17,30 +17,17 @@ use Rattle.grid.specs.Answers.{Answer}
 use Rattle.grid.specs.Codes.{answer}
 use Rattle.grid.specs.Splits.{splits, splitAt}
 use Rattle.grid.specs.Plane.{Node, pole, least, longitudeAt, leastFromPole, cellFrom, cellAt, planeCodes, restOf}
-use Rattle.grid.proofs.Cut.{clash, and-true, allBelow, below}
+use Rattle.grid.proofs.Cut.{clash, and-true}
+use Rattle.grid.proofs.Lengths.{adds, grows}
 use Rattle.grid.proofs.PlaneLaws.{Good, GoodCell, GoodCap, cell-positive, cap-positive, limX, limY}
 use Rattle.polar_read.specs.declared.Cursor.{Cursor}
 use Rattle.polar_read.specs.Reading.{frameOf, boxOf, nodeOf, readOf, startOf, Round, HasRead, stepOf, soFar, Reached, answerOf}
 use Rattle.polar_read.specs.Room.{OfLevel, Room, Ready, Whole}
 use Rattle.polar_read.proofs.SoFar.{so-far-on, so-far-bad, so-far-good}
 
--- ---- the table
-
 -- a level's characters follow those before
-adds : (k : ℕ) → 1 ≤ k → k < 10 → splitAt (k - 1) .length + splitAt k .characters ≡ splitAt k .length
-adds k a b =
-    let e : k - 1 + 1 ≡ k = omega arith in
-    let t : splitAt (k - 1) .length + splitAt (k - 1 + 1) .characters ≡ splitAt (k - 1 + 1) .length =
-    eqb-true _ _ (below (λ j. eqb (splitAt j .length + splitAt (j + 1) .characters) (splitAt (j + 1) .length)) 9 (k - 1) refl (omega arith)) in
-    rw e at t
-
--- a deeper level's codes are longer, and none has more than 20 characters
-grows : (i j : ℕ) → i ≤ j → j < 10 → splitAt i .length ≤ splitAt j .length
-grows i j a b =
-    leb-true _ _
-    (below (λ i. leb (splitAt i .length) (splitAt j .length)) (suc j) i
-    (below (λ j. allBelow (λ i. leb (splitAt i .length) (splitAt j .length)) (suc j)) 10 j refl b)
-    (omega arith))
+follows : (k : ℕ) → 1 ≤ k → k < 10 → splitAt (k - 1) .length + splitAt k .characters ≡ splitAt k .length
+follows k a b = let e : suc (k - 1) ≡ k = omega arith in rw e at (adds (k - 1) (omega arith))
 
 -- ---- a good cell lies on the globe and is not empty
 
@@ -120,7 +107,7 @@ module _ {level k n : ℕ} {s : Split} {w : List ℕ} {c : Cursor} (r : Ready le
 
     module _ (g : c .good ≡ true) where
       starts : c .place + s .characters ≡ splitAt k .length
-      starts = rw (at-level .placed g, r .table) (adds k (r .later) (r .last))
+      starts = rw (at-level .placed g, r .table) (follows k (r .later) (r .last))
 
       pub level-room : Room c s
       level-room =

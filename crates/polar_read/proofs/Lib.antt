@@ -1,5 +1,4 @@
 -- Laws that the proofs of this crate cite.
-pub mod Mirror
 pub mod Division
 pub mod Step
 pub mod Follow

@@ -1,6 +1,6 @@
 -- What reading the levels 2 to l of a polar code finds, level by level; and what is known of the cell that was found.
 -- Assumes nothing.
-use mathlib.Core.Path.{_≡_, refl, _∙_, ap}
+use mathlib.Core.Path.{_≡_, refl, sym, _∙_, ap}
 use mathlib.Core.Bool.{Bool, true}
 use mathlib.Core.List.{List, [], _∷_, _++_, map}
 use Prim.Native.Nat.{ℕ, zero, suc, _+_, _-_, _≤_, _<_}
@@ -16,10 +16,11 @@ use Rattle.grid.specs.Tree.{Read, ok, bad, shift, next, follow}
 use Rattle.grid.specs.Splits.{split, splits, splitAt}
 use Rattle.grid.specs.Plane.{Node, pole, childOf, plane}
 use Rattle.grid.proofs.Cut.{clash, below}
-use Rattle.grid.proofs.Laws.{total}
+use Rattle.grid.proofs.Lists.{drop-map}
+use Rattle.grid.proofs.Laws.{total, shift-shift}
 use Rattle.grid.proofs.PlaneLaws.{Good, fitsPole, laws}
 use Rattle.polar_read.specs.Reading.{soFar}
-use Rattle.polar_read.proofs.Follow.{shift-shift, follow-split, follow-on}
+use Rattle.polar_read.proofs.Follow.{follow-split, follow-on}
 
 -- ---- the table: lengths add up, and from N000 or S000 on every level divides evenly
 
@@ -31,11 +32,6 @@ even : (j : ℕ) → j < 10 → fitsPole (drop 1 (take (suc j) splits) ++ drop (
 even j h = below (λ j. fitsPole (drop 1 (take (suc j) splits) ++ drop (suc j) splits)) 10 j refl h
 
 -- ---- one level more
-
-drop-map : (n : ℕ) (w : List ℕ) → map digitOf (drop n w) ≡ drop n (map digitOf w)
-drop-map zero w = refl
-drop-map (suc n) [] = refl
-drop-map (suc n) (x ∷ w) = drop-map n w
 
 next-done : {A : Type 0} (k : ℕ) (r : Read A) → next k r ok ≡ r
 next-done k (ok a) = refl
@@ -63,7 +59,7 @@ more : (ts : List Split) (t : Split) (n : Node) (w : List ℕ)
 more ts t n w = ap (shift 4) (follow-split plane ts (t ∷ []) n (map digitOf (drop 4 w))) ∙ go (follow plane ts n (map digitOf (drop 4 w)))
   where
     same : drop (total plane ts) (map digitOf (drop 4 w)) ≡ drop (4 + total plane ts) (map digitOf w)
-    same = ap (drop (total plane ts)) (drop-map 4 w) ∙ drop-drop (total plane ts) 4 (map digitOf w)
+    same = ap (drop (total plane ts)) (sym (drop-map digitOf 4 w)) ∙ drop-drop (total plane ts) 4 (map digitOf w)
 
     go : (r : Read Node) → shift 4 (next (total plane ts) r (λ m. follow plane (t ∷ []) m (drop (total plane ts) (map digitOf (drop 4 w))))) ≡ onward (level-at t (4 + total plane ts) w) (shift 4 r)
     go (ok m) =

@@ -3,33 +3,26 @@
 use mathlib.Core.Path.{_≡_, refl, sym, _∙_}
 use mathlib.Core.Bool.{Bool, true, false}
 use mathlib.Core.List.{List, [], _∷_, map}
-use Prim.Native.Nat.{ℕ, suc, _+_, _-_, _/_, _%_, _≤_, _<_, min}
+use Prim.Native.Nat.{ℕ, _+_, _-_, _/_, _%_, _≤_, _<_, min}
 use native.Mathlib.Nat.{add-zero}
-use native.Mathlib.Numerals.{add-one}
-use native.Mathlib.Omega.{arith}
 use lib.Dec.{ltb, eqb}
-use lib.ListN.{length, getD, take, drop, length-map, List·getD-map}
-use lib.Seq.{drop-cons}
+use lib.ListN.{length, getD, take, drop}
 use borrow.Author.Tests.{le-ltb, lt-ltb, ne-eqb}
 use Rattle.grid.specs.declared.Split.{Split}
 use Rattle.grid.specs.Characters.{digitOf}
 use Rattle.grid.specs.Tree.{Read, bad, guard, shift}
 use Rattle.grid.specs.Plane.{readAs, formOf, childOf, nearPole}
+use Rattle.grid.proofs.Lists.{take-map, drop-map, map-one, map-two}
 use Rattle.polar_read.specs.declared.Cursor.{Cursor}
 use Rattle.polar_read.specs.Reading.{nodeOf, frameOf, columnsOf, divided, childIn, settledOf, stepOf}
 
 -- ---- the digits of a level
 
-digit-at : (w : List ℕ) (at : ℕ) → at < length w → drop at (map digitOf w) ≡ digitOf (getD w at 0) ∷ drop (suc at) (map digitOf w)
-digit-at w at h =
-    let l : at < length (map digitOf w) = rw (length-map w digitOf) h in
-    rw (← List·getD-map digitOf w at 0) (drop-cons (map digitOf w) at (digitOf 0) l)
-
 pub one-digit : (w : List ℕ) (at : ℕ) → at + 1 ≤ length w → take 1 (drop at (map digitOf w)) ≡ digitOf (getD w at 0) ∷ []
-one-digit w at h = rw (digit-at w at (omega arith)) refl
+one-digit w at h = rw (drop-map digitOf at w, take-map digitOf 1 (drop at w)) (map-one digitOf w at h)
 
 pub two-digits : (w : List ℕ) (at : ℕ) → at + 2 ≤ length w → take 2 (drop at (map digitOf w)) ≡ digitOf (getD w at 0) ∷ digitOf (getD w (at + 1) 0) ∷ []
-two-digits w at h = rw (digit-at w at (omega arith), digit-at w (suc at) (omega arith), add-one at) refl
+two-digits w at h = rw (drop-map digitOf at w, take-map digitOf 2 (drop at w)) (map-two digitOf w at h)
 
 -- ---- the grid's division, seen from the cursor
 

@@ -6,10 +6,9 @@ ghost use mathlib.Core.Path.{_≡_};
 ghost use mathlib.Core.Bool.{true};
 ghost use Prim.Native.Nat.{ℕ, _+_, _≤_, _<_, min};
 ghost use lib.ListN.{length};
-ghost use Rattle.grid.specs.Units.{unit};
 ghost use Rattle.grid.specs.Tree.{ok, bad};
 ghost use Rattle.grid.specs.Answers.{planeRead};
-ghost use Rattle.grid.specs.Plane.{pole, allowed, least, longitudeAt, leastFromPole, cellAt, polarNode, restOf};
+ghost use Rattle.grid.specs.Plane.{pole, allowed, longitudeAt, leastFromPole, cellAt, polarNode, restOf};
 ghost use Rattle.polar_read.specs.Reading.{nodeOf, readOf, startOf, Round, HasRead, Moved, Reached, answerOf};
 ghost use Rattle.polar_read.specs.Reading.{columnsOf, inmostOf, divided, childIn, settledOf, stepOf};
 ghost use Rattle.polar_read.specs.Room.{OfLevel, Whole, Room, ChildRoom, Ready};
@@ -18,39 +17,15 @@ use grid::PlaneRead;
 use grid::Refusal;
 use grid::Split;
 
-// The number on a side of 0 with an outward index.
-fn signed(side: bool, index: u32) -> i32
-    requires { ⌜ index < 2147483648 ⌝ }
-    ensures { λ r. ⌜ r ≡ unit side index ⌝ }
-{
-    if side {
-        index as i32
-    } else {
-        -1 - index as i32
-    }
-}
-
-// The least of the n numbers on a side whose outward indices are from u on.
-fn least_on(side: bool, u: u32, n: u32) -> i32
-    requires { ⌜ (0 < n) × (u + n ≤ 2147483648) ⌝ }
-    ensures { λ r. ⌜ r ≡ least side u n ⌝ }
-{
-    if side {
-        signed(true, u)
-    } else {
-        signed(false, u + n - 1)
-    }
-}
-
 // The longitude e units eastward of 0, in its range.
 fn longitude_at(e: u32) -> i32
     requires { ⌜ e < 2654208000 ⌝ }
     ensures { λ r. ⌜ r ≡ longitudeAt e ⌝ }
 {
     if e < 1327104000 {
-        signed(true, e)
+        grid::number_on(true, e)
     } else {
-        signed(false, 2654207999 - e)
+        grid::number_on(false, 2654207999 - e)
     }
 }
 
@@ -60,9 +35,9 @@ fn least_from_pole(north: bool, q: u32, n: u32) -> i32
     ensures { λ r. ⌜ r ≡ leastFromPole north q n ⌝ }
 {
     if north {
-        signed(true, 663552000 - (q + n))
+        grid::number_on(true, 663552000 - (q + n))
     } else {
-        signed(false, 663551999 - q)
+        grid::number_on(false, 663551999 - q)
     }
 }
 
@@ -290,8 +265,8 @@ impl Cursor {
         }
         Cell {
             level,
-            west: least_on(self.east, self.x, self.w),
-            south: least_on(self.north, self.y, self.h),
+            west: grid::least_on(self.east, self.x, self.w),
+            south: grid::least_on(self.north, self.y, self.h),
             width: self.w,
             height: self.h,
         }

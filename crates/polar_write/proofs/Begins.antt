@@ -16,7 +16,7 @@ use Rattle.grid.proofs.Poles.{named-only}
 use Rattle.grid.proofs.PlaneLaws.{index-unit}
 use Rattle.polar_write.specs.declared.Spot.{Spot}
 use Rattle.polar_write.specs.Spots.{spot, step, spotIn, beltCell, Polar, Begun}
-use Rattle.polar_write.proofs.Written.{on-globe}
+use Rattle.polar_write.proofs.Written.{polar-on}
 
 -- the cell k has the square, and so it is its cell
 module _ (p : Place) (P : Polar p) (k : ℕ) (few : k < 16) where
@@ -28,7 +28,7 @@ module _ (p : Place) (P : Polar p) (k : ℕ) (few : k < 16) where
       → c ≡ k / 4 → r ≡ k % 4 → q ≡ spotIn (polarNode (p .north) k) s → Begun p (step 4 c r q)
   begun a b d e x y z =
       let i : index (s .latitude) ≡ p .y = index-unit (p .north) (p .y) in
-      let n : polarCellOf s ≡ k = named-only s (on-globe p P .0) (on-globe p P .1) k few
+      let n : polarCellOf s ≡ k = named-only s (polar-on p P .0) (polar-on p P .1) k few
       (and-make _ _ (and-make _ _ (le-leb _ _ a) (lt-ltb _ _ b))
       (and-make _ _ (le-leb _ _ (subst (λ (v : ℕ). polarCellAt k .low ≤ v) (sym i) d)) (lt-ltb _ _ (subst (λ (v : ℕ). v < polarCellAt k .low + 3686400) (sym i) e)))) in
       record { first = rw n x; second = rw n y; stands = rw n z }
@@ -133,7 +133,7 @@ in-disc j h =
 
 module _ (p : Place) (P : Polar p) {e : ℕ} (E : e ≡ eastward (unit (p .east) (p .x))) where
   turn : e < 2654208000
-  turn = subst (λ (z : ℕ). z < 2654208000) (sym E) (eastward-below (squareOf p) (on-globe p P .0))
+  turn = subst (λ (z : ℕ). z < 2654208000) (sym E) (eastward-below (squareOf p) (polar-on p P .0))
 
   pub cap-begun : 663551999 - p .y < 3686400 → Begun p (step 4 0 0 (spot true e (663551999 - p .y)))
   unfolding spotIn

@@ -1,20 +1,8 @@
 -- Where a writer stands after some levels of a tree, and what it has written by then.
 -- Assumes nothing.
 use mathlib.Core.Path.{_≡_, refl, sym, _∙_, ap}
-use mathlib.Core.List.{List, [], _∷_, _++_, map, append-assoc}
-use Prim.Native.Nat.{ℕ, suc, _+_}
-use native.Mathlib.Nat.{add-zero, add-suc, suc-add}
-use lib.ListN.{length, set}
-use lib.Seq.{sets}
+use mathlib.Core.List.{List, [], _∷_, _++_, append-assoc}
 use Rattle.grid.specs.Tree.{reached, Tree, code}
-
-pub map-append : (f : ℕ → ℕ) (a b : List ℕ) → map f (a ++ b) ≡ map f a ++ map f b
-map-append f [] b = refl
-map-append f (x ∷ a) b = ap (λ y. f x ∷ y) (map-append f a b)
-
-pub sets-append : (l : List ℕ) (i : ℕ) (xs ys : List ℕ) → sets l i (xs ++ ys) ≡ sets (sets l i xs) (i + length xs) ys
-sets-append l i [] ys = rw add-zero
-sets-append l i (x ∷ xs) ys = rw (add-suc, ← suc-add) (sets-append (set l i x) (suc i) xs ys)
 
 -- the node where a writer stands after the levels ts
 unfoldable pub arrive : (R : Tree) → List (R .Level) → R .Node → R .Point → R .Node

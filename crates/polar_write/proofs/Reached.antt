@@ -2,7 +2,7 @@
 -- Assumes nothing.
 use mathlib.Core.Path.{_≡_, refl, sym, _∙_, ap, subst}
 use mathlib.Core.Bool.{Bool, true, false}
-use mathlib.Core.List.{[], _∷_, _++_, map, append-nil}
+use mathlib.Core.List.{[], _∷_, _++_, map, map-append, append-nil}
 use Prim.Native.Nat.{ℕ, zero, suc, _+_, _-_, _*_, _/_, _%_, _≤_, _<_}
 use native.Mathlib.Omega.{arith}
 use lib.ListN.{take, drop}
@@ -22,7 +22,7 @@ use Rattle.grid.proofs.PlaneLaws.{Good, good}
 use Rattle.polar_write.specs.declared.Spot.{Spot}
 use Rattle.polar_write.specs.Spots.{spotIn, stepOf}
 use Rattle.polar_write.proofs.Table.{told}
-use Rattle.polar_write.proofs.Loops.{map-append, arrive, arrive-more, code-split}
+use Rattle.polar_write.proofs.Loops.{arrive, arrive-more, code-split}
 use Rattle.polar_write.proofs.Moves.{Shaped, Moved, moves}
 
 -- the node after k levels, and where the square stands in it

@@ -10,10 +10,11 @@ use lib.Seq.{sets}
 use lib.Dec.{eqb}
 use borrow.Author.Tests.{lt-ltb, le-ltb, eq-eqb, ne-eqb}
 use Rattle.grid.specs.declared.Split.{Split}
+use Rattle.grid.specs.Splits.{placeOf}
 use Rattle.grid.specs.Characters.{charOf}
 use Rattle.grid.specs.Plane.{quad, trio, write}
 use Rattle.polar_write.specs.declared.Step.{Step}
-use Rattle.polar_write.specs.Spots.{spot, step, ringWidth, capStep, added, placeOf}
+use Rattle.polar_write.specs.Spots.{spot, step, ringWidth, capStep, added}
 
 -- a cap's row other than 0
 pub in-ring : (t : Split) (e q r : ℕ) → (r ≡ 0 → ⊥)

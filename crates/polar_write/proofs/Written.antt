@@ -1,66 +1,34 @@
 -- What is written of a polar place's code, and where it stands, after some levels.
 -- Assumes nothing.
-use mathlib.Core.Path.{_≡_, refl, sym, _∙_, ap, subst}
-use mathlib.Core.Bool.{Bool, true, false, cond}
-use mathlib.Core.List.{List, [], _++_, map}
+use mathlib.Core.Path.{_≡_, sym, _∙_, ap, subst}
+use mathlib.Core.Bool.{Bool}
+use mathlib.Core.List.{List, _++_, map}
 use Prim.Native.Nat.{ℕ, suc, _+_, _-_, _≤_, _<_, min}
 use native.Mathlib.Omega.{arith}
-use native.Mathlib.Nat.{zero-add}
-use lib.ListN.{length, take, length-map}
+use lib.ListN.{length}
 use lib.Seq.{sets, length-sets}
-use lib.Dec.{ltb, leb, eqb}
-use borrow.Author.Tests.{ltb-true, ltb-false, leb-true, eqb-true}
 use Rattle.grid.specs.declared.Split.{Split}
 use Rattle.grid.specs.declared.Place.{Place}
 use Rattle.grid.specs.Units.{index, Square, OnGlobe, squareOf}
-use Rattle.grid.specs.Splits.{splits, splitAt}
-use Rattle.grid.specs.Tree.{code}
+use Rattle.grid.specs.Splits.{splitAt, placeOf}
 use Rattle.grid.specs.Characters.{charOf}
-use Rattle.grid.specs.Plane.{Node, globe, polarCellOf, polarNode, plane, formOf, write, codeOf}
-use Rattle.grid.proofs.Cut.{allBelow, below}
-use Rattle.grid.proofs.Laws.{total, length-code}
-use Rattle.grid.proofs.PlaneLaws.{splits-fit, index-unit, side-unit, laws}
+use Rattle.grid.specs.Plane.{Node, polarCellOf, polarNode, formOf, write, codeOf}
+use Rattle.grid.proofs.Lists.{sets-next}
+use Rattle.grid.proofs.Lengths.{grows, code-start}
+use Rattle.grid.proofs.PlaneLaws.{index-unit, side-unit, on-globe}
 use Rattle.polar_write.specs.declared.Spot.{Spot}
 use Rattle.polar_write.specs.declared.Step.{Step}
-use Rattle.polar_write.specs.Spots.{stepOf, added, placeOf, Stands, Ready, Gone, Polar, Started, Writable, spotIn}
-use Rattle.polar_write.proofs.Loops.{sets-append}
+use Rattle.polar_write.specs.Spots.{stepOf, added, Stands, Ready, Gone, Polar, Started, Writable, spotIn}
 use Rattle.polar_write.proofs.Table.{told}
 use Rattle.polar_write.proofs.Bounds.{spot-stands}
-use Rattle.polar_write.proofs.Reached.{nodeAt, spotAt, Reach, reach, second-node, moved, spot-suc, code-is, code-suc}
-
--- where a level's characters begin
-pub code-length : (k : ℕ) (s : Square) → k < 10 → OnGlobe s → length (codeOf k s) ≡ placeOf (splitAt k)
-unfolding total
-code-length k s h o =
-    ap length (code-is k s) ∙ length-map (code plane (take k splits) globe s) charOf ∙ length-code plane laws (take k splits) globe s (splits-fit k (omega arith)) o
-    ∙ eqb-true _ _ (below (λ k. eqb (total plane (take k splits)) (placeOf (splitAt k))) 10 k refl h)
-
--- codes of finer levels are longer
-pub longer : (k level : ℕ) → k < level → level ≤ 10 → splitAt k .length ≤ splitAt (level - 1) .length
-longer k level h l =
-    leb-true _ _ (below (λ k. leb (splitAt k .length) (splitAt (level - 1) .length)) level k (below (λ i. allBelow (λ k. leb (splitAt k .length) (splitAt (i - 1) .length)) i) 11 level refl (omega arith)) h)
+use Rattle.polar_write.proofs.Reached.{nodeAt, spotAt, Reach, reach, second-node, moved, spot-suc, code-suc}
 
 -- place k adds what one level more has
 module _ (level k : ℕ) (s : Square) (o : OnGlobe s) (h : k < 10) (d : Step)
     (e : codeOf (suc k) s ≡ codeOf k s ++ map charOf (write (formOf (splitAt k .characters) (d .columns)) (d .column) (d .row))) (l : List ℕ) where
   pub add-level : sets (sets l 0 (codeOf (min k level) s)) (placeOf (splitAt k)) (added level k (splitAt k) d) ≡ sets l 0 (codeOf (min (suc k) level) s)
   unfolding added
-  add-level = go (ltb k level) refl
-    where
-      w : List ℕ
-      w = map charOf (write (formOf (splitAt k .characters) (d .columns)) (d .column) (d .row))
-
-      go : (q : Bool) → ltb k level ≡ q
-          → sets (sets l 0 (codeOf (min k level) s)) (placeOf (splitAt k)) (cond q w []) ≡ sets l 0 (codeOf (min (suc k) level) s)
-      go true p =
-          let b : k < level = ltb-true k level p in
-          let m : min k level ≡ k = omega arith in
-          let n : min (suc k) level ≡ suc k = omega arith in
-          rw (m, n, e) (sym (sets-append l 0 (codeOf k s) w ∙ ap (λ (i : ℕ). sets (sets l 0 (codeOf k s)) i w) (ap (λ (i : ℕ). 0 + i) (code-length k s h o) ∙ zero-add (placeOf (splitAt k)))))
-      go false p =
-          let b : level ≤ k = ltb-false k level p in
-          let m : min k level ≡ min (suc k) level = omega arith in
-          rw m refl
+  add-level = sets-next (λ i. codeOf i s) level k (placeOf (splitAt k)) l _ (omega arith) (omega arith) (λ _. e) (code-start k s o h)
 
 -- after k levels: what was asked, the line, and the spot
 pub record Done (level k : ℕ) (p : Place) (before line : List ℕ) (r : Spot) : Type 0 where
@@ -68,11 +36,8 @@ pub record Done (level k : ℕ) (p : Place) (before line : List ℕ) (r : Spot) 
   pub text : line ≡ sets before 0 (codeOf (min k level) (squareOf p))
   pub spot : r ≡ spotAt k (squareOf p)
 
-pub on-globe : (p : Place) → Polar p → OnGlobe (squareOf p) × (648806400 ≤ index (squareOf p .latitude))
-on-globe p h = (
-  record { longitude-in = rw (index-unit (p .east) (p .x)) (h .x-in); latitude-in = rw (index-unit (p .north) (p .y)) (h .y-in) },
-  rw (index-unit (p .north) (p .y)) (h .near),
-)
+pub polar-on : (p : Place) → Polar p → OnGlobe (squareOf p) × (648806400 ≤ index (squareOf p .latitude))
+polar-on p h = (on-globe p (h .x-in) (h .y-in), rw (index-unit (p .north) (p .y)) (h .near))
 
 -- the line is as long as it was
 pub same-room : {level k : ℕ} {p : Place} {before line : List ℕ} {r : Spot} → Done level k p before line r → length line ≡ length before
@@ -84,10 +49,10 @@ module _ (k : ℕ) (a : 2 ≤ k) (b : k < 10) {level : ℕ} {p : Place} {t : Spl
   s = squareOf p
 
   on : OnGlobe s
-  on = on-globe p (D .asked .polar) .0
+  on = polar-on p (D .asked .polar) .0
 
   there : Reach k s
-  there = reach s on (on-globe p (D .asked .polar) .1) k a (omega arith)
+  there = reach s on (polar-on p (D .asked .polar) .1) k a (omega arith)
 
   pub onward : {after : List ℕ} {r : Spot} → Gone level k t q line after r → Done level (suc k) p before after r
   onward {after} {r} H =
@@ -112,7 +77,7 @@ module _ (k : ℕ) (a : 2 ≤ k) (b : k < 10) {level : ℕ} {p : Place} {t : Spl
         room = λ h.
             (let l : length line ≡ length before = same-room D in
             let m : t .length ≡ splitAt k .length = ap (λ (x : Split). x .length) z in
-            omega (arith, l, m, D .asked .room, longer k level h (D .asked .level-high)));
+            omega (arith, l, m, D .asked .room, grows k (level - 1) (omega arith) (omega (arith, D .asked .level-low, D .asked .level-high))));
       }
 
 -- the first two levels
@@ -120,7 +85,7 @@ pub started : {level : ℕ} {p : Place} {before after : List ℕ} {r : Spot} →
 started {level} {p} {before} {after} {r} W S =
     let s = squareOf p in
     let P = W .polar in
-    let e : nodeAt 2 s ≡ polarNode (p .north) (polarCellOf s) = second-node s (on-globe p P .0) (on-globe p P .1) ∙ ap (λ (b : Bool). polarNode b (polarCellOf s)) (side-unit (p .north) (p .y)) in
+    let e : nodeAt 2 s ≡ polarNode (p .north) (polarCellOf s) = second-node s (polar-on p P .0) (polar-on p P .1) ∙ ap (λ (b : Bool). polarNode b (polarCellOf s)) (side-unit (p .north) (p .y)) in
     record { asked = W; text = S .laid; spot = S .stands ∙ ap (λ (n : Node). spotIn n s) (sym e) }
 
 -- all the levels

@@ -11,7 +11,7 @@ use lib.Seq.{sets}
 use Rattle.grid.specs.declared.Split.{Split}
 use Rattle.grid.specs.declared.Place.{Place}
 use Rattle.grid.specs.Units.{TURN, HALF, QUARTER, POLAR, eastward, fromPole, Square, squareOf}
-use Rattle.grid.specs.Splits.{splitAt}
+use Rattle.grid.specs.Splits.{splitAt, placeOf}
 use Rattle.grid.specs.Characters.{charOf}
 use Rattle.grid.specs.Plane.{Node, globe, pole, cell, cap, xIn, yIn, formOf, write, letter, polarCellOf, polarNode, codeOf}
 use Rattle.polar_write.specs.declared.Spot.{Spot}
@@ -59,10 +59,6 @@ firstChars north = map charOf (letter north ∷ 0 ∷ 0 ∷ 0 ∷ [])
 -- what place k of the table, level k + 1, adds to the code of a level
 unfoldable pub added : ℕ → ℕ → Split → Step → List ℕ
 added level k t s = cond (ltb k level) (map charOf (write (formOf (t .characters) (s .columns)) (s .column) (s .row))) []
-
--- where it begins
-abbrev pub placeOf : Split → ℕ
-placeOf t = t .length - t .characters
 
 -- a level's divisions have divisors
 pub record Divides (t : Split) : Type 0 where

@@ -9,9 +9,9 @@ ghost use lib.Dec.{eqb};
 ghost use lib.ListN.{length};
 ghost use lib.Seq.{sets};
 ghost use Rattle.grid.specs.Units.{HALF, DISC, unit, eastward, squareOf};
-ghost use Rattle.grid.specs.Characters.{charOf};
-ghost use Rattle.grid.specs.Plane.{letter, codeOf};
-ghost use Rattle.polar_write.specs.Spots.{firstChars, capStep, stepOf, placeOf, added, beltCell, Divides, Fits, Ready, Gone, Polar, Begun, Started, Writable};
+ghost use Rattle.grid.specs.Splits.{placeOf};
+ghost use Rattle.grid.specs.Plane.{codeOf};
+ghost use Rattle.polar_write.specs.Spots.{firstChars, capStep, stepOf, added, beltCell, Divides, Fits, Ready, Gone, Polar, Begun, Started, Writable};
 use grid::Place;
 use grid::Split;
 
@@ -144,19 +144,12 @@ fn next(level: u32, k: u32, s: Split, spot: Spot, line: &mut [u8]) -> Spot
     d.rest
 }
 
-// N or S.
-fn side(north: bool) -> u8
-    ensures { λ r. ⌜ r ≡ charOf (letter north) ⌝ }
-{
-    if north { b'N' } else { b'S' }
-}
-
 // Level 1: N000 or S000.
 fn put_first(north: bool, line: &mut [u8])
     requires { ⌜ 4 ≤ length (now line) ⌝ }
     ensures { λ _. ⌜ now (line .exit) ≡ sets (now (line .entry)) 0 (firstChars north) ⌝ }
 {
-    line[0] = side(north);
+    line[0] = grid::hemisphere(north);
     line[1] = b'0';
     line[2] = b'0';
     line[3] = b'0';

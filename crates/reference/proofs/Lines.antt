@@ -8,12 +8,9 @@ use native.Mathlib.Numerals.{add-one}
 use native.Mathlib.Omega.{arith}
 use lib.ListN.{length, take, set, getD, length-append}
 use lib.Seq.{sets, take-suc, take-all, length-take-le}
+use Rattle.grid.proofs.Lists.{sets-append}
 use Rattle.grid.specs.Characters.{charOf}
 use Rattle.reference.specs.Text.{referenceCode}
-
-pub sets-append : (l : List ℕ) (i : ℕ) (xs ys : List ℕ) → sets l i (xs ++ ys) ≡ sets (sets l i xs) (i + length xs) ys
-sets-append l i [] ys = rw add-zero
-sets-append l i (x ∷ xs) ys = rw (add-suc, ← suc-add) (sets-append (set l i x) (suc i) xs ys)
 
 -- one byte more
 pub copied-more : (b l line : List ℕ) (i : ℕ) → i < length b → line ≡ sets l 0 (take i b) → set line i (getD b i 0) ≡ sets l 0 (take (i + 1) b)

@@ -12,6 +12,7 @@ use borrow.Author.Tests.{lt-ltb, le-ltb, ltb-true, ltb-false}
 use Rattle.grid.specs.Tree.{Tree, Read, ok, bad, shift, next, reached, code, follow}
 use Rattle.grid.specs.Both.{mix, firstOf, secondOf, firstPlace, secondPlace, joined, Pair, both}
 use Rattle.grid.proofs.Cut.{clash, and-true}
+use Rattle.grid.proofs.Lists.{take-map, drop-map}
 use Rattle.grid.proofs.Laws.{Laws, Halts, total}
 use Rattle.grid.proofs.Places.{first-inside, second-inside, first-length, second-length, first-digit, second-digit}
 use Rattle.grid.proofs.BothLaws.{ones, twos, eachAdds, adds, first-mix, second-mix, length-mix, InBoth, GoodBoth}
@@ -158,16 +159,6 @@ pub record Sliced (part : Strand → List ℕ → List ℕ) (count : Strand → 
   pub digit : (t : Strand) (d : List ℕ) (p : ℕ) → 0 < t .one → 0 < t .two → length d ≡ both-of t → p < count t → getD (part t d) p 0 ≡ getD d (place t p) 0
   pub inside : (t : Strand) (p : ℕ) → 0 < t .one → 0 < t .two → p < count t → place t p < both-of t
   pub natural : (f : ℕ → ℕ) (t : Strand) (d : List ℕ) → part t (map f d) ≡ map f (part t d)
-
-take-map : (f : ℕ → ℕ) (n : ℕ) (l : List ℕ) → take n (map f l) ≡ map f (take n l)
-take-map f zero l = refl
-take-map f (suc n) [] = refl
-take-map f (suc n) (x ∷ l) = ap (λ y. f x ∷ y) (take-map f n l)
-
-drop-map : (f : ℕ → ℕ) (n : ℕ) (l : List ℕ) → drop n (map f l) ≡ map f (drop n l)
-drop-map f zero l = refl
-drop-map f (suc n) [] = refl
-drop-map f (suc n) (x ∷ l) = drop-map f n l
 
 first-map : (f : ℕ → ℕ) (q : Bool) (k : ℕ) (w : List ℕ) → firstOf q k (map f w) ≡ map f (firstOf q k w)
 first-map f false k w = take-map f k w

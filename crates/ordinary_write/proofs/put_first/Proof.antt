@@ -20,8 +20,8 @@ split-of-requires c κs = search needs
 zone-requires : tie.Need-zone-requires
 zone-requires c κs = search needs
 
-side-requires : tie.Need-side-requires
-side-requires c κs = search needs
+hemisphere-requires : tie.Need-hemisphere-requires
+hemisphere-requires c κs = search needs
 
 slice-write-line : tie.Need-slice-write-line
 slice-write-line c = search needs
@@ -66,7 +66,7 @@ returns c =
     let s = c .before .before .before .before .before .before in
     let y : s .args .p .y / c .before .before .before .before .split-of .result .height ≡ s .args .p .y / 29491200 =
     ap (λ (d : ℕ). s .args .p .y / d) (high (c .before .before .before .before)) in
-    first-stored (s .args .p) _ (s .pre .0) (s .pre .1) (c .before .before .before .zone .ensures) (c .before .before .side .ensures) y
+    first-stored (s .args .p) _ (s .pre .0) (s .pre .1) (c .before .before .before .zone .ensures) (c .before .before .hemisphere .ensures) y
 
 pub put-first-spec : {M : Type 1} → statement M
 put-first-spec =
@@ -74,7 +74,7 @@ put-first-spec =
     (tie.spec
     split-of-requires
     zone-requires
-    side-requires
+    hemisphere-requires
     slice-write-line
     add-line
     cast-line

@@ -1,4 +1,4 @@
--- `polar_read::least_from_pole` meets its contract. Each arm is `signed` at the index that the definition has. Assumes nothing.
+-- `polar_read::least_from_pole` meets its contract. Each arm is `grid::number_on` at the index that the definition has. Assumes nothing.
 use mathlib.Core.Path.{_∙_}
 use mir.Syntax.{w32}
 use mir.Facts.{toZ-ofZ}
@@ -6,35 +6,35 @@ use borrow.Author.Needs.{needs}
 use Rattle.polar_read.proofs.least_from_pole.Statement.{statement}
 use Rattle.polar_read.proofs.least_from_pole.Tie as tie
 
-add-signed : tie.Need-add-signed
-add-signed c = search needs
+add-number-on : tie.Need-add-number-on
+add-number-on c = search needs
 
-sub-signed : tie.Need-sub-signed
-sub-signed c = search needs
+sub-number-on : tie.Need-sub-number-on
+sub-number-on c = search needs
 
-signed-requires : tie.Need-signed-requires
-signed-requires c κs = search needs
+number-on-requires : tie.Need-number-on-requires
+number-on-requires c κs = search needs
 
-sub-signed-2 : tie.Need-sub-signed-2
-sub-signed-2 c = search needs
+sub-number-on-2 : tie.Need-sub-number-on-2
+sub-number-on-2 c = search needs
 
-signed-requires-2 : tie.Need-signed-requires-2
-signed-requires-2 c κs = search needs
+number-on-requires-2 : tie.Need-number-on-requires-2
+number-on-requires-2 c κs = search needs
 
 returns : tie.Need-returns
-returns c = toZ-ofZ {w = w32} {z = c .signed .result} (record { sfits = c .signed .ok }) ∙ c .signed .ensures ∙ simp (c .before .if1 .taken)
+returns c = toZ-ofZ {w = w32} {z = c .number-on .result} (record { sfits = c .number-on .ok }) ∙ c .number-on .ensures ∙ simp (c .before .if1 .taken)
 
 returns-2 : tie.Need-returns-2
-returns-2 c = toZ-ofZ {w = w32} {z = c .signed2 .result} (record { sfits = c .signed2 .ok }) ∙ c .signed2 .ensures ∙ simp (c .before .if1 .left)
+returns-2 c = toZ-ofZ {w = w32} {z = c .number-on2 .result} (record { sfits = c .number-on2 .ok }) ∙ c .number-on2 .ensures ∙ simp (c .before .if1 .left)
 
 pub least-from-pole-spec : {M : Type 1} → statement M
 least-from-pole-spec =
     tie.close
     (tie.spec
-    add-signed
-    sub-signed
-    signed-requires
-    sub-signed-2
-    signed-requires-2
+    add-number-on
+    sub-number-on
+    number-on-requires
+    sub-number-on-2
+    number-on-requires-2
     returns
     returns-2)

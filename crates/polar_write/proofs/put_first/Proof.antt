@@ -7,8 +7,8 @@ use Rattle.grid.specs.Characters.{charOf}
 use Rattle.polar_write.proofs.put_first.Statement.{statement}
 use Rattle.polar_write.proofs.put_first.Tie as tie
 
-side-requires : tie.Need-side-requires
-side-requires c κs = search needs
+hemisphere-requires : tie.Need-hemisphere-requires
+hemisphere-requires c κs = search needs
 
 slice-write-line : tie.Need-slice-write-line
 slice-write-line c = search needs
@@ -27,9 +27,9 @@ same-length c = search needs
 
 returns : tie.Need-returns
 unfolding charOf
-returns c = rw (c .side .ensures) refl
+returns c = rw (c .hemisphere .ensures) refl
 
 pub put-first-spec : {M : Type 1} → statement M
 put-first-spec =
     tie.close
-    (tie.spec side-requires slice-write-line slice-write-line-2 slice-write-line-3 slice-write-line-4 same-length returns)
+    (tie.spec hemisphere-requires slice-write-line slice-write-line-2 slice-write-line-3 slice-write-line-4 same-length returns)

@@ -11,17 +11,17 @@ use Rattle.ordinary_read.proofs.Cursor.answer.Tie as tie
 returns : tie.Need-returns
 returns c = let s = c .before .before .args .self in answer-refused _ s (not-true (s .good) (c .if1 .taken))
 
-edge-requires : tie.Need-edge-requires
-edge-requires c κs = let i = c .before .before .pre (not-false _ (c .if1 .left)) in (i .some-width, i .across)
+least-on-requires : tie.Need-least-on-requires
+least-on-requires c κs = let i = c .before .before .pre (not-false _ (c .if1 .left)) in (i .some-width, omega (arith, i .across))
 
-edge-requires-2 : tie.Need-edge-requires-2
-edge-requires-2 c κs = let i = c .before .before .before .pre (not-false _ (c .before .if1 .left)) in (i .some-height, omega (arith, i .along))
+least-on-requires-2 : tie.Need-least-on-requires-2
+least-on-requires-2 c κs = let i = c .before .before .before .pre (not-false _ (c .before .if1 .left)) in (i .some-height, omega (arith, i .along))
 
 returns-2 : tie.Need-returns-2
 returns-2 c =
     answer-found _ (c .before .before .before .before .args .self) (not-false _ (c .before .before .if1 .left))
-    (toZ-ofZ {w = w32} {z = c .before .edge .result} (record { sfits = c .before .edge .ok }) ∙ c .before .edge .ensures)
-    (toZ-ofZ {w = w32} {z = c .edge2 .result} (record { sfits = c .edge2 .ok }) ∙ c .edge2 .ensures)
+    (toZ-ofZ {w = w32} {z = c .before .least-on .result} (record { sfits = c .before .least-on .ok }) ∙ c .before .least-on .ensures)
+    (toZ-ofZ {w = w32} {z = c .least-on2 .result} (record { sfits = c .least-on2 .ok }) ∙ c .least-on2 .ensures)
 
 pub answer-spec : {M : Type 1} → statement M
-answer-spec = tie.close (tie.spec returns edge-requires edge-requires-2 returns-2)
+answer-spec = tie.close (tie.spec returns least-on-requires least-on-requires-2 returns-2)
