@@ -16,4 +16,3 @@ pub mod Places
 pub mod BothLaws
 pub mod Theorems
 pub mod Laying
-pub mod Cases

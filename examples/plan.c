@@ -1,0 +1,45 @@
+/* A worked example: the cell that a flight over a tower holds, and its neighbour, from a receiver's arc-seconds.
+ *
+ *     cc -I ../target/hailgully plan.c ../target/hailgully/libhailgully.a -o plan && ./plan
+ */
+#include <stdio.h>
+
+#include "hailgully.h"
+
+static int refused(const char *what, hg_refusal r) {
+    if (r.number == 0) return 0;
+    printf("%s: refused %u at %llu of code %u\n", what, (unsigned)r.number, (unsigned long long)r.place, (unsigned)r.ordinal);
+    return 1;
+}
+
+int main(void) {
+    /* The receiver prints arc-seconds; the library works in units of 1/2048 arc-second, rounded down. */
+    hg_units at = hg_arcseconds(418725.3, 143975.3);
+    if (refused("position", at.refusal)) return 1;
+    printf("position %d %d\n", (int)at.longitude, (int)at.latitude);
+
+    /* The space code of level 6 (2 seconds) at layer 1,000. */
+    uint8_t line[64] = "held: ";
+    hg_written w = hg_space_write(6, at.longitude, at.latitude, 1000, line, sizeof line, 6);
+    if (refused("space code", w.refusal)) return 1;
+    printf("%.*s\n", (int)(6 + w.length), (const char *)line);
+
+    hg_space_cell cell = hg_space_read(line + 6, w.length);
+    if (refused("space cell", cell.refusal)) return 1;
+    printf("level %u from %d %d, %u by %u units, layers %d to %lld\n", (unsigned)cell.level, (int)cell.west, (int)cell.south,
+           (unsigned)cell.width, (unsigned)cell.height, (int)cell.floor, (long long)cell.floor + cell.thickness - 1);
+
+    /* The plane cell one to the east, by a reference code and back. */
+    uint8_t base[HG_PLANE_MOST], east[HG_PLANE_MOST], reference[HG_REFERENCE_MOST];
+    hg_written b = hg_plane_write(6, at.longitude, at.latitude, base, sizeof base, 0);
+    hg_written e = hg_plane_write(6, (int64_t)at.longitude + cell.width, at.latitude, east, sizeof east, 0);
+    if (refused("base", b.refusal) || refused("east", e.refusal)) return 1;
+    hg_written r = hg_reference_write(base, b.length, east, e.length, reference, sizeof reference, 0);
+    if (refused("reference", r.refusal)) return 1;
+    printf("neighbour %.*s\n", (int)r.length, (const char *)reference);
+
+    /* A code that was heard wrong: the board shows where. */
+    hg_plane_cell bad = hg_plane_read((const uint8_t *)"N61A", 4);
+    refused("N61A", bad.refusal);
+    return 0;
+}
