@@ -1,6 +1,6 @@
 //! What a careful Rust programmer would write by hand: straight-line functions with constant divisors, refusals included.
-//! They do the same work as the library's calls on ordinary cells, and answer None for a polar one (the benchmark has a polar row of its own,
-//! which is held against the library's own ordinary time).
+//! They do the same work as the library's calls on ordinary cells, and answer REFUSED_POLAR for a polar one (the benchmark has polar rows of
+//! its own, which are held against the library's own ordinary time).
 
 pub const REFUSED_POLAR: u32 = 99;
 
@@ -19,8 +19,35 @@ pub struct Cell {
     pub height: u32,
 }
 
+#[derive(Clone, Copy, PartialEq, Debug)]
+pub struct Box {
+    pub west: f64,
+    pub south: f64,
+    pub width: f64,
+    pub height: f64,
+}
+
+#[derive(Clone, Copy, PartialEq, Debug)]
+pub struct Units {
+    pub longitude: i32,
+    pub latitude: i32,
+}
+
+/// Holds an answer of the library against a plain one: the same refusal, or both succeed and `equal` compares what they found. A polar
+/// cell is passed over.
+pub fn same<T>(ours: &crate::ffi::Refusal, other: Result<T, Refusal>, equal: impl FnOnce(T)) {
+    match other {
+        Err(r) if r.number == REFUSED_POLAR => {}
+        Err(r) => assert_eq!((ours.number, ours.place, ours.ordinal), (r.number, r.place, 1)),
+        Ok(found) => {
+            assert_eq!((ours.number, ours.place, ours.ordinal), (0, 0, 0));
+            equal(found);
+        }
+    }
+}
+
 const LENGTHS: [usize; 11] = [0, 4, 6, 7, 9, 11, 12, 14, 16, 18, 20];
-const WIDTHS: [u32; 11] = [0, 44_236_800, 3_686_400, 1_843_200, 122_880, 8_192, 4_096, 512, 64, 8, 1];
+pub const WIDTHS: [u32; 11] = [0, 44_236_800, 3_686_400, 1_843_200, 122_880, 8_192, 4_096, 512, 64, 8, 1];
 const HEIGHTS: [u32; 11] = [0, 29_491_200, 3_686_400, 1_228_800, 122_880, 8_192, 4_096, 512, 64, 8, 1];
 
 fn refuse(number: u32) -> Result<usize, Refusal> {
@@ -28,12 +55,12 @@ fn refuse(number: u32) -> Result<usize, Refusal> {
 }
 
 #[inline(always)]
-fn index(u: i64) -> u64 {
+pub fn index(u: i64) -> u64 {
     (u ^ (u >> 63)) as u64
 }
 
 #[inline(always)]
-fn hex(v: u32) -> u8 {
+pub fn hex(v: u32) -> u8 {
     (if v < 10 { 48 + v } else { 55 + v }) as u8
 }
 
@@ -116,7 +143,7 @@ pub fn plane_write(level: i64, longitude: i64, latitude: i64, line: &mut [u8], a
 }
 
 #[inline(always)]
-fn value(b: u8) -> u32 {
+pub fn value(b: u8) -> u32 {
     match b {
         b'0'..=b'9' => (b - 48) as u32,
         b'A'..=b'V' => (b - 55) as u32,
@@ -143,7 +170,7 @@ fn level_of(n: usize) -> usize {
 
 macro_rules! digit {
     ($code:ident, $place:expr, $bound:expr) => {{
-        let v = value($code[$place]);
+        let v = if $bound <= 10 { $code[$place].wrapping_sub(48) as u32 } else { value($code[$place]) };
         if v >= $bound {
             return Err(Refusal { number: 7, place: $place as u64 });
         }
@@ -214,7 +241,7 @@ fn read_rest(code: &[u8], level: usize, x: &mut u32, y: &mut u32) -> Result<(), 
 }
 
 #[inline(always)]
-fn cell(level: usize, west: bool, south: bool, x: u32, y: u32) -> Cell {
+pub fn cell(level: usize, west: bool, south: bool, x: u32, y: u32) -> Cell {
     let (w, h) = (WIDTHS[level], HEIGHTS[level]);
     Cell {
         level: level as u32,
@@ -254,4 +281,31 @@ pub fn plane_read(code: &[u8]) -> Result<Cell, Refusal> {
     let mut y = (row - 10) * 29_491_200;
     read_rest(code, level, &mut x, &mut y)?;
     Ok(cell(level, west, south, x, y))
+}
+
+#[inline(never)]
+pub fn plane_box(code: &[u8]) -> Result<Box, Refusal> {
+    let cell = plane_read(code)?;
+    Ok(Box {
+        west: cell.west as f64 / 2048.0,
+        south: cell.south as f64 / 2048.0,
+        width: cell.width as f64 / 2048.0,
+        height: cell.height as f64 / 2048.0,
+    })
+}
+
+#[inline(never)]
+pub fn arcseconds(longitude: f64, latitude: f64) -> Result<Units, Refusal> {
+    if longitude.is_nan() || latitude.is_nan() {
+        return Err(Refusal { number: 11, place: 0 });
+    }
+    let x = (longitude * 2048.0).floor();
+    if !(-1_327_104_000.0..1_327_104_000.0).contains(&x) {
+        return Err(Refusal { number: 2, place: 0 });
+    }
+    let y = (latitude * 2048.0).floor();
+    if !(-663_552_000.0..663_552_000.0).contains(&y) {
+        return Err(Refusal { number: 3, place: 0 });
+    }
+    Ok(Units { longitude: x as i32, latitude: y as i32 })
 }

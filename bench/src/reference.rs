@@ -1,0 +1,80 @@
+//! Reference codes, levels 5 to 10 mixed. They are held against one plane read and one plane write of ours on the same bases.
+
+use crate::inputs::{each, many, Code, Dice, Position};
+use crate::plain::WIDTHS;
+use crate::table::{Pass, Row};
+use crate::{ffi, plane};
+use std::hint::black_box;
+
+#[derive(Clone, Copy)]
+struct Step {
+    from: Position,
+    east: i64,
+    north: i64,
+    base: Code,
+    target: Code,
+    code: Code,
+}
+
+/// From level 5 on a cell is as high as it is wide.
+fn moved(p: &Position, east: i64, north: i64) -> Position {
+    let size = WIDTHS[p.level as usize] as i64;
+    let turned = p.longitude + east * size + 1_327_104_000;
+    Position { longitude: turned.rem_euclid(2_654_208_000) - 1_327_104_000, latitude: p.latitude + north * size, ..*p }
+}
+
+fn step(dice: &mut Dice) -> Step {
+    let level = dice.between(5, 10);
+    let from = Position::ordinary(dice, level);
+    let (east, north) = (dice.between(-7, 7), dice.between(-7, 7));
+    let base = Code::plane(&from);
+    let target = Code::plane(&moved(&from, east, north));
+    let code = Code::written(|line| ffi::reference_write(base.text(), target.text(), line, 0));
+    Step { from, east, north, base, target, code }
+}
+
+fn offset(v: i64) -> u8 {
+    (if v < 0 { 64 - v } else { 48 + v }) as u8
+}
+
+/// The library leads from base to target and back, with the offsets that the positions were given.
+fn same(steps: &[Step]) {
+    for s in steps {
+        let mut text = s.base.text().to_vec();
+        text.extend([b'-', offset(s.east), offset(s.north)]);
+        assert_eq!(s.code.text(), text);
+        let back = Code::written(|line| ffi::reference_read(s.code.text(), line, 0));
+        assert_eq!(back.text(), s.target.text());
+    }
+}
+
+fn write_ours(steps: &'static [Step]) -> Pass {
+    let mut line = [0u8; 28];
+    Box::new(move || {
+        for s in steps {
+            black_box(&ffi::reference_write(s.base.text(), s.target.text(), black_box(&mut line[..]), black_box(2)));
+        }
+    })
+}
+
+fn read_ours(codes: &'static [Code]) -> Pass {
+    let mut line = [0u8; 28];
+    Box::new(move || {
+        for c in codes {
+            black_box(&ffi::reference_read(c.text(), black_box(&mut line[..]), black_box(2)));
+        }
+    })
+}
+
+pub fn rows(dice: &mut Dice) -> Vec<Row> {
+    let steps = many(|| step(dice));
+    same(steps);
+    let bases = each(steps, |s| s.base);
+    let at = each(steps, |s| s.from);
+    let codes = each(steps, |s| s.code);
+    let sum = || vec![plane::read_ours(bases), plane::write_ours(at)];
+    vec![
+        Row::new("reference write, levels 5 to 10", write_ours(steps), sum(), "our plane read + write", Some(3.0)),
+        Row::new("reference read, levels 5 to 10", read_ours(codes), sum(), "our plane read + write", Some(3.0)),
+    ]
+}

@@ -1,0 +1,90 @@
+//! A row of the table is two pieces of work timed in turn on the same inputs, and a bar on the ratio of their times.
+
+use crate::inputs::MANY;
+use std::time::Instant;
+
+/// One pass makes MANY calls.
+pub type Pass = Box<dyn FnMut()>;
+
+pub const PLAIN: &str = "plain Rust";
+
+pub struct Row {
+    pub name: String,
+    pub ours: Pass,
+    /// The times of these are added up.
+    pub others: Vec<Pass>,
+    pub against: &'static str,
+    /// The greatest ratio allowed, if there is one.
+    pub bar: Option<f64>,
+}
+
+impl Row {
+    pub fn new(name: impl Into<String>, ours: Pass, others: Vec<Pass>, against: &'static str, bar: Option<f64>) -> Row {
+        Row { name: name.into(), ours, others, against, bar }
+    }
+
+    pub fn plain(name: impl Into<String>, ours: Pass, plain: Pass, bar: Option<f64>) -> Row {
+        Row::new(name, ours, vec![plain], PLAIN, bar)
+    }
+
+    /// The least time of some rounds, in nanoseconds a call, of ours and of the others. They take turns, so that both meet the same
+    /// disturbances.
+    fn times(&mut self, rounds: usize) -> (f64, f64) {
+        let mut ours = f64::INFINITY;
+        let mut others = vec![f64::INFINITY; self.others.len()];
+        for _ in 0..rounds {
+            ours = ours.min(nanoseconds(&mut self.ours));
+            for (least, pass) in others.iter_mut().zip(&mut self.others) {
+                *least = least.min(nanoseconds(pass));
+            }
+        }
+        (ours, others.iter().sum())
+    }
+
+    /// Times and prints the row; whether it is within its bar.
+    fn show(&mut self, rounds: usize) -> bool {
+        let (ours, other) = self.times(rounds);
+        let ratio = ours / other;
+        let bar = self.bar.map_or("-".to_string(), |bar| format!("{bar:.2}"));
+        println!("{:<34} {ours:>8.1} ns {other:>8.1} ns {ratio:>7.2} {bar:>6}  {}", self.name, self.against);
+        self.bar.is_none_or(|bar| ratio <= bar)
+    }
+
+    /// Runs one side, untimed, so that its instructions can be counted from outside.
+    pub fn run(&mut self, ours: bool, passes: usize) {
+        for _ in 0..passes {
+            if ours {
+                (self.ours)();
+            } else {
+                self.others.iter_mut().for_each(|pass| pass());
+            }
+        }
+    }
+}
+
+/// A round is short, so that some rounds fall between the disturbances of a busy machine.
+fn nanoseconds(pass: &mut Pass) -> f64 {
+    const PASSES: usize = 4;
+    let from = Instant::now();
+    for _ in 0..PASSES {
+        pass();
+    }
+    from.elapsed().as_nanos() as f64 / (PASSES * MANY) as f64
+}
+
+/// Prints the table and its verdict; whether every row is within its bar.
+pub fn show(rows: &mut [Row], rounds: usize) -> bool {
+    println!("{:<34} {:>11} {:>11} {:>7} {:>6}  against", "call", "ours", "other", "ratio", "bar");
+    let mut over = Vec::new();
+    for row in rows {
+        if !row.show(rounds) {
+            over.push(row.name.as_str());
+        }
+    }
+    if over.is_empty() {
+        println!("bench: all within their bars");
+    } else {
+        println!("bench: over their bars: {}", over.join("; "));
+    }
+    over.is_empty()
+}
