@@ -75,8 +75,9 @@ pub fn rows(dice: &mut Dice) -> Vec<Row> {
         let at = many(|| Position::ordinary(dice, level));
         let codes = each(at, Code::space);
         same(dice, at, codes);
-        rows.push(Row::plain(format!("space write, level {level}"), write_ours(at), write_plain(at), Some(1.5)));
-        rows.push(Row::plain(format!("space read, level {level}"), read_ours(codes), read_plain(codes), Some(1.5)));
+        let bar = if level == 10 { Some(1.5) } else { None };
+        rows.push(Row::plain(format!("space write, level {level}"), write_ours(at), write_plain(at), bar));
+        rows.push(Row::plain(format!("space read, level {level}"), read_ours(codes), read_plain(codes), bar));
     }
     rows
 }
