@@ -1,13 +1,14 @@
 -- Characters and digits: where a byte's digit is found, and that the two ways undo each other.
 -- Assumes nothing.
-use mathlib.Core.Path.{_≡_, refl, _∙_}
+use mathlib.Core.Path.{_≡_, refl, sym, _∙_}
 use mathlib.Core.Bool.{Bool, true, false, cond, _&&_}
 use mathlib.Core.List.{List, [], _∷_, map}
 use Prim.Native.Nat.{ℕ, _+_, _-_, _%_, _^_, _≤_, _<_}
 use native.Mathlib.Omega.{arith}
 use lib.Dec.{ltb, leb, eqb}
 use borrow.Author.Tests.{ltb-true, ltb-false, leb-true, eqb-true, lt-ltb, le-ltb, le-leb, lt-leb}
-use Rattle.grid.specs.Characters.{charOf, digitOf}
+use Rattle.grid.specs.Characters.{charOf, digitOf, decimalOf}
+use Rattle.grid.specs.Tree.{Read, bad, guard}
 use Rattle.grid.proofs.Cut.{and-true, below, Below}
 
 -- ---- where a byte's digit is found
@@ -90,3 +91,45 @@ digits-chars (x ∷ d) h = rw (digit-char x (h .0), digits-chars d (h .1)) refl
 pub chars-digits : (w : List ℕ) → Below 32 (map digitOf w) → map charOf (map digitOf w) ≡ w
 chars-digits [] h = refl
 chars-digits (x ∷ w) h = rw (char-digit x (h .0), chars-digits w (h .1)) refl
+
+-- ---- decimal digits
+
+char-decimal : (v : ℕ) → v < 10 → 48 + v ≡ charOf v
+unfolding charOf
+char-decimal v h = rw (lt-ltb v 10 h) refl
+
+module _ (b : ℕ) where
+  pub decimal-below : digitOf b < 10 → decimalOf b ≡ digitOf b
+  unfolding decimalOf
+  decimal-below h = rw (lt-ltb (digitOf b) 10 h) refl
+
+  pub decimal-above : 10 ≤ digitOf b → decimalOf b ≡ 32
+  unfolding decimalOf
+  decimal-above h = rw (le-ltb (digitOf b) 10 h) refl
+
+  -- by its distance from '0', taken around the 32 bits
+  module _ (d : ℕ) (e : (d + 48) % 2 ^ 32 ≡ b) where
+    pub decimal-near : d < 10 → d ≡ decimalOf b
+    decimal-near h =
+        let f : d ≡ digitOf b = near-zero b d e h in
+        f ∙ sym (decimal-below (omega arith))
+
+    pub decimal-far : 10 ≤ d → d < 2 ^ 32 → 32 ≡ decimalOf b
+    decimal-far h k = go (ltb (digitOf b) 10) refl
+      where
+        go : (q : Bool) → ltb (digitOf b) 10 ≡ q → 32 ≡ decimalOf b
+        go true q =
+            let l : digitOf b < 10 = ltb-true _ _ q in
+            let c : 48 + digitOf b ≡ b = char-decimal (digitOf b) l ∙ char-digit b (omega arith) in
+            absurd (omega arith)
+        go false q = sym (decimal-above (ltb-false _ _ q))
+
+  -- a test against a limit of at most 10 does not tell the two apart
+  pub decimal-guard : {A : Type 0} (p limit : ℕ) (f : ℕ → Read A) → limit ≤ 10 → guard p (ltb (decimalOf b) limit) (f (decimalOf b)) ≡ guard p (ltb (digitOf b) limit) (f (digitOf b))
+  decimal-guard p limit f h = go (ltb (digitOf b) 10) refl
+    where
+      go : (q : Bool) → ltb (digitOf b) 10 ≡ q → guard p (ltb (decimalOf b) limit) (f (decimalOf b)) ≡ guard p (ltb (digitOf b) limit) (f (digitOf b))
+      go true q = rw (decimal-below (ltb-true _ _ q)) refl
+      go false q =
+          let l : 10 ≤ digitOf b = ltb-false _ _ q in
+          rw (decimal-above l, le-ltb (digitOf b) limit (omega arith), le-ltb 32 limit (omega arith)) refl

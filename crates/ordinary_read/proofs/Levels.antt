@@ -21,7 +21,7 @@ use Rattle.grid.proofs.Laws.{shift-shift}
 use Rattle.grid.proofs.Lengths.{adds}
 use Rattle.ordinary_read.proofs.Steps.{onward-bad}
 use Rattle.ordinary_read.specs.declared.Cursor.{Cursor}
-use Rattle.ordinary_read.specs.Reading.{readOf, onward, answerOf, Inside, Stands, Divides, Ready, Reached, Started, Onward}
+use Rattle.ordinary_read.specs.Reading.{readOf, onward, answerOf, Inside, Stands, Divides, Decimal, Ready, Reached, Started, Onward}
 
 -- ---- from one level to the next
 
@@ -44,6 +44,16 @@ divides k c h p =
       few-characters = leb-true _ _ (each (λ t s. leb (s .characters) 2) refl k h);
       single = λ e. omega (arith, low, high, e);
     }
+
+-- levels 7 to 10 need no letters
+pub decimal : (j : ℕ) {s : Split} → s ≡ splitAt (6 + j) → j < 4 → Decimal s
+decimal j e h =
+    subst⁻¹ Decimal e
+    (record {
+      two = eqb-true _ _ (below (λ j. eqb (splitAt (6 + j) .characters) 2) 4 j refl h);
+      few-columns = leb-true _ _ (below (λ j. leb (splitAt (6 + j) .columns) 10) 4 j refl h);
+      few-rows = leb-true _ _ (below (λ j. leb (splitAt (6 + j) .rows) 10) 4 j refl h);
+    })
 
 -- what is read of the code w from the cell m on, through the level k + 1
 abbrev readTo : List ℕ → Node → ℕ → Read Node

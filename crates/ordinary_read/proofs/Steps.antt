@@ -8,17 +8,18 @@ use native.Mathlib.Omega.{arith}
 use lib.Dec.{ltb, leb}
 use lib.IntN.{ℤ}
 use lib.ListN.{length, getD}
-use borrow.Author.Tests.{lt-ltb, le-ltb, le-leb, lt-leb}
+use borrow.Author.Tests.{lt-ltb, le-ltb, le-leb, leb-true, leb-false}
 use Rattle.grid.specs.declared.Split.{Split}
-use Rattle.grid.specs.Characters.{digitOf}
+use Rattle.grid.specs.Characters.{digitOf, decimalOf}
 use Rattle.grid.specs.Tree.{Read, ok, bad, guard, shift}
 use Rattle.grid.specs.Splits.{first}
 use Rattle.grid.specs.Answers.{accepted, refused, wrongCharacter}
 use Rattle.grid.specs.Plane.{Node, cell, ordinary, Form, pair, quad, formOf, plainPart, sub, sheet, readAs, least, cellFrom, planeCodes}
-use Rattle.grid.proofs.Cut.{clash, cut-end}
+use Rattle.grid.proofs.Cut.{clash, cut-end, and-true}
+use Rattle.grid.proofs.Characters.{decimal-guard}
 use Rattle.grid.proofs.Lists.{map-one, map-two}
 use Rattle.ordinary_read.specs.declared.Cursor.{Cursor}
-use Rattle.ordinary_read.specs.Reading.{boxOf, readOf, digitsIn, onward, answerOf, Inside, Divides, Ready, Started, Child, Onward}
+use Rattle.ordinary_read.specs.Reading.{boxOf, readOf, digitsIn, onward, answerOf, Inside, Divides, Decimal, goesOn, Ready, Started, Child, Onward}
 
 -- ---- the cell of level 1
 
@@ -104,11 +105,6 @@ module _ (s : Split) (column row : ℕ) (c : Cursor) where
 
 -- ---- one level's characters
 
--- the code ends before the level
-pub onward-ended : (s : Split) (w : List ℕ) (c : Cursor) → length w < s .length → Ready s (length w) c → Onward s w c c
-onward-ended s w c h p =
-    record { read = rw (lt-leb (s .length) (length w) h) refl; reached = λ g. (p g .0, λ k. absurd (omega arith)) }
-
 -- a character before it was not allowed
 pub onward-bad : (s : Split) (w : List ℕ) (p : ℕ) → bad p ≡ onward s w (bad p)
 onward-bad s w p = go (leb (s .length) (length w))
@@ -117,8 +113,28 @@ onward-bad s w p = go (leb (s .length) (length w))
     go true = refl
     go false = refl
 
-pub onward-stopped : (s : Split) (w : List ℕ) (c : Cursor) → c .good ≡ false → Onward s w c c
-onward-stopped s w c e = record { read = rw e (onward-bad s w (c .place)); reached = λ g. clash (cc) }
+-- the cursor stays where it was
+pub onward-held : (s : Split) (w : List ℕ) (c : Cursor) → goesOn s (length w) c ≡ false → Ready s (length w) c → Onward s w c c
+onward-held s w c e p = go (c .good) refl (leb (s .length) (length w)) refl e
+  where
+    go : (g : Bool) → c .good ≡ g → (q : Bool) → leb (s .length) (length w) ≡ q → (g && q) ≡ false → Onward s w c c
+    go false g q l e = record { read = rw g (onward-bad s w (c .place)); reached = λ t. clash (cc) }
+    go true g false l e =
+        record { read = rw l refl; reached = λ t. (p t .0, λ k. let n : length w < s .length = leb-false _ _ l in absurd (omega arith)) }
+    go true g true l e = clash (cc)
+
+-- the cursor goes on, and the level divides its cell
+pub record Goes (s : Split) (n : ℕ) (c : Cursor) : Type 0 where
+  pub good : c .good ≡ true
+  pub long : s .length ≤ n
+  pub inside : Inside c
+  pub divides : Divides s c
+
+pub goes : (s : Split) (n : ℕ) (c : Cursor) → goesOn s n c ≡ true → Ready s n c → Goes s n c
+goes s n c e p =
+    let a = and-true (c .good) (leb (s .length) n) e in
+    let l : s .length ≤ n = leb-true _ _ (a .1) in
+    record { good = a .0; long = l; inside = p (a .0) .0; divides = p (a .0) .1 l }
 
 -- two tests at their places
 pair-guards : {A : Type 0} (at l : ℕ) (a b : Bool) (x : A) → at + 1 ≡ l
@@ -165,6 +181,20 @@ module _ (s : Split) (w : List ℕ) (c : Cursor) (h : s .length ≤ length w) (g
         read = k .read ∙ single-guards (c .place) (s .length - 1) (c .place) (ltb (a % 2) (s .columns)) (ltb (a / 2) (s .rows)) (childAt (a % 2) (a / 2)) (lt-ltb (a % 2) (s .columns) (omega arith)) (omega (arith, d .at)) ∙ sym (goes-on quad (a ∷ []) (rw (t, two) refl) l);
         reached = λ x. (k .reached x .0, λ _. k .reached x .1);
       }
+
+  -- where no letters are needed, it is read without them
+  pub onward-decimal : (a b : ℕ) (r : Cursor) → Decimal s → a ≡ decimalOf (getD w (c .place) 0) → b ≡ decimalOf (getD w (c .place + 1) 0)
+      → Child s a b c r → Onward s w c r
+  onward-decimal a b r t p q k =
+      let u : ℕ = getD w (c .place) 0 in
+      let v : ℕ = getD w (c .place + 1) 0 in
+      let here : ℕ → ℕ → Read Node = λ column row. guard (s .length - 1) (ltb row (s .rows)) (ok (childAt column row)) in
+      onward-pair (digitOf u) (digitOf v) r (λ e. let z : s .characters ≡ 2 = t .two in absurd (omega arith)) refl refl
+      (record {
+        read = k .read ∙ rw (p, q) refl ∙ decimal-guard u (c .place) (s .columns) (λ x. here x (decimalOf v)) (t .few-columns)
+            ∙ ap (guard (c .place) (ltb (digitOf u) (s .columns))) (decimal-guard v (s .length - 1) (s .rows) (λ y. ok (childAt (digitOf u) y)) (t .few-rows));
+        reached = k .reached;
+      })
 
 -- ---- the answer
 

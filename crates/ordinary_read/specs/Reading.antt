@@ -1,7 +1,7 @@
 -- What a cursor of the ordinary reader means, and what each of its methods makes of it.
 -- Assumes nothing.
 use mathlib.Core.Path.{_≡_}
-use mathlib.Core.Bool.{Bool, true, cond}
+use mathlib.Core.Bool.{Bool, true, cond, _&&_}
 use mathlib.Core.List.{List, map}
 use Prim.Native.Nat.{ℕ, _+_, _-_, _*_, _≤_, _<_}
 use lib.Dec.{ltb, leb}
@@ -75,6 +75,16 @@ pub record Divides (s : Split) (c : Cursor) : Type 0 where
   pub some-characters : 1 ≤ s .characters
   pub few-characters : s .characters ≤ 2
   pub single : s .characters ≡ 1 → s .columns ≡ 2
+
+-- the level s has two characters, and needs no letters
+pub record Decimal (s : Split) : Type 0 where
+  pub two : s .characters ≡ 2
+  pub few-columns : s .columns ≤ 10
+  pub few-rows : s .rows ≤ 10
+
+-- all was allowed so far, and a code of n characters has the level s
+abbrev pub goesOn : Split → ℕ → Cursor → Bool
+goesOn s n c = c .good && leb (s .length) n
 
 -- before the level s, in a code of n characters: where the code has the level, it comes next
 abbrev pub Ready : Split → ℕ → Cursor → Type 0

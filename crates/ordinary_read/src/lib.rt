@@ -13,6 +13,8 @@ ghost use Rattle.ordinary_read.specs.Reading.{
   answerOf,
   Inside,
   Divides,
+  Decimal,
+  goesOn,
   Ready,
   Started,
   Child,
@@ -91,16 +93,24 @@ impl Cursor {
         }
     }
 
-    // Past the characters of the level s, where all before them were allowed and the code has them; else where it was.
+    // Whether all the characters before were allowed, and the code has those of the level s.
+    fn goes_on(self, s: Split, code: &[u8]) -> bool
+        ensures { λ r. ⌜ r ≡ goesOn s (length (now (code .entry))) self ⌝ }
+    {
+        if self.good {
+            s.length <= code.len()
+        } else {
+            false
+        }
+    }
+
+    // Past the characters of the level s, where the cursor goes on; else where it was.
     // Two characters are column, then row; one is 2 · row + column.
     fn next(self, s: Split, code: &[u8]) -> Cursor
         requires { ⌜ Ready s (length (now code)) self ⌝ }
         ensures { λ r. ⌜ Onward s (now (code .entry)) self r ⌝ }
     {
-        if !self.good {
-            return self;
-        }
-        if code.len() < s.length {
+        if !self.goes_on(s, code) {
             return self;
         }
         let at = self.place;
@@ -110,6 +120,20 @@ impl Cursor {
         }
         let second = grid::digit(code[at + 1]);
         self.child(s, first, second)
+    }
+
+    // The same past the two characters of a level that needs no letters.
+    fn next_decimal(self, s: Split, code: &[u8]) -> Cursor
+        requires { ⌜ Ready s (length (now code)) self × Decimal s ⌝ }
+        ensures { λ r. ⌜ Onward s (now (code .entry)) self r ⌝ }
+    {
+        if !self.goes_on(s, code) {
+            return self;
+        }
+        let at = self.place;
+        let column = grid::decimal(code[at]);
+        let row = grid::decimal(code[at + 1]);
+        self.child(s, column, row)
     }
 
     // What the reader answers.
@@ -146,9 +170,9 @@ pub fn rest(level: u32, north: bool, zone: u32, row: u32, code: &[u8]) -> PlaneR
         .next(grid::split_of(3), code)
         .next(grid::split_of(4), code)
         .next(grid::split_of(5), code)
-        .next(grid::split_of(6), code)
-        .next(grid::split_of(7), code)
-        .next(grid::split_of(8), code)
-        .next(grid::split_of(9), code)
+        .next_decimal(grid::split_of(6), code)
+        .next_decimal(grid::split_of(7), code)
+        .next_decimal(grid::split_of(8), code)
+        .next_decimal(grid::split_of(9), code)
         .answer(level)
 }

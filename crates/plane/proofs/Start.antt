@@ -7,10 +7,11 @@ use Prim.Native.Nat.{ℕ, zero, suc, _+_, _-_, _*_, _≤_, _<_}
 use native.Mathlib.Omega.{arith}
 use lib.Dec.{ltb, leb, eqb}
 use lib.ListN.{length, take, getD}
-use borrow.Author.Tests.{lt-ltb, le-ltb, le-leb, lt-leb, eq-eqb, ne-eqb}
-use Rattle.grid.specs.Characters.{digitOf}
+use borrow.Author.Tests.{ltb-true, ltb-false, lt-ltb, le-ltb, le-leb, lt-leb, eq-eqb, ne-eqb}
+use Rattle.grid.specs.Characters.{charOf, digitOf, decimalOf}
 use Rattle.grid.specs.Tree.{Read, ok, bad}
-use Rattle.grid.specs.Plane.{Node, pole, sheet, globeChild}
+use Rattle.grid.specs.Plane.{Node, pole, sheet, letter, globeChild}
+use Rattle.grid.proofs.Characters.{digit-char, char-digit, decimal-below, decimal-above}
 use Rattle.plane.specs.Start.{letteredRead, zonedRead}
 
 module _ (n : Bool) (z d : ℕ) where
@@ -64,17 +65,49 @@ four (a ∷ b ∷ []) h = absurd (omega arith)
 four (a ∷ b ∷ c ∷ []) h = absurd (omega arith)
 four (a ∷ b ∷ c ∷ d ∷ l) h = refl
 
-module _ (l : List ℕ) (h : 4 ≤ length l) {a b c d : ℕ} (ea : a ≡ digitOf (getD l 0 0)) (eb : b ≡ digitOf (getD l 1 0)) (ec : c ≡ digitOf (getD l 2 0)) (ed : d ≡ digitOf (getD l 3 0)) where
-  pub digits-four : globeChild (a ∷ b ∷ c ∷ d ∷ []) ≡ globeChild (take 4 (map digitOf l))
-  digits-four = rw (four l h, ea, eb, ec, ed) refl
+-- the zone is read without letters
+zoned-decimal : (n : Bool) (x y d : ℕ) → zonedRead n (decimalOf x) (decimalOf y) d ≡ zonedRead n (digitOf x) (digitOf y) d
+unfolding zonedRead
+zoned-decimal n x y d = go (ltb (digitOf x) 10) refl (ltb (digitOf y) 10) refl
+  where
+    go : (p : Bool) → ltb (digitOf x) 10 ≡ p → (q : Bool) → ltb (digitOf y) 10 ≡ q → zonedRead n (decimalOf x) (decimalOf y) d ≡ zonedRead n (digitOf x) (digitOf y) d
+    go true e true f = rw (decimal-below x (ltb-true _ _ e), decimal-below y (ltb-true _ _ f)) refl
+    go true e false f =
+        let k : 10 ≤ digitOf y = ltb-false _ _ f in
+        rw (decimal-below x (ltb-true _ _ e), decimal-above y k, lt-leb (digitOf y) 9 (omega arith)) refl
+    go false e q f =
+        let k : 10 ≤ digitOf x = ltb-false _ _ e in
+        rw (decimal-above x k, lt-leb (10 * digitOf x) 60 (omega arith)) refl
 
-  pub starts-north : {r : Read Node} → a ≡ 23 → r ≡ zonedRead true b c d → r ≡ globeChild (take 4 (map digitOf l))
-  unfolding zonedRead letteredRead
-  starts-north e q = q ∙ rw e refl ∙ digits-four
+-- after N or S, it is the rule's
+zoned-child : (n : Bool) (b c d : ℕ) → zonedRead n b c d ≡ globeChild (letter n ∷ b ∷ c ∷ d ∷ [])
+unfolding zonedRead letteredRead
+zoned-child true b c d = refl
+zoned-child false b c d = refl
 
-  pub starts-south : {r : Read Node} → a ≡ 28 → r ≡ zonedRead false b c d → r ≡ globeChild (take 4 (map digitOf l))
-  unfolding zonedRead letteredRead
-  starts-south e q = q ∙ rw e refl ∙ digits-four
+-- a byte is the character of a digit exactly when its digit is that one
+letter-is : (b v : ℕ) → v < 32 → b ≡ charOf v → digitOf b ≡ v
+letter-is b v h e = ap digitOf e ∙ digit-char v h
 
-  pub starts-neither : (a ≡ 23 → ⊥) → (a ≡ 28 → ⊥) → bad 0 ≡ globeChild (take 4 (map digitOf l))
-  starts-neither e f = (let z : bad 0 ≡ globeChild (a ∷ b ∷ c ∷ d ∷ []) = rw (ne-eqb a 23 e, ne-eqb a 28 f) refl in z) ∙ digits-four
+letter-is-not : (b v : ℕ) → v < 32 → (b ≡ charOf v → ⊥) → digitOf b ≡ v → ⊥
+letter-is-not b v h f e = f (sym (char-digit b (omega arith)) ∙ ap charOf e)
+
+module _ (l : List ℕ) (h : 4 ≤ length l) where
+  pub starts-neither : (getD l 0 0 ≡ 78 → ⊥) → (getD l 0 0 ≡ 83 → ⊥) → bad 0 ≡ globeChild (take 4 (map digitOf l))
+  unfolding charOf
+  starts-neither e f =
+      rw (four l h, ne-eqb (digitOf (getD l 0 0)) 23 (letter-is-not _ 23 (omega arith) e), ne-eqb (digitOf (getD l 0 0)) 28 (letter-is-not _ 28 (omega arith) f)) refl
+
+  module _ {b c d : ℕ} (eb : b ≡ decimalOf (getD l 1 0)) (ec : c ≡ decimalOf (getD l 2 0)) (ed : d ≡ digitOf (getD l 3 0)) where
+    starts : (n : Bool) {r : Read Node} → digitOf (getD l 0 0) ≡ letter n → r ≡ zonedRead n b c d → r ≡ globeChild (take 4 (map digitOf l))
+    starts n e q =
+        let z : zonedRead n b c d ≡ zonedRead n (digitOf (getD l 1 0)) (digitOf (getD l 2 0)) (digitOf (getD l 3 0)) = rw (eb, ec, ed) (zoned-decimal n (getD l 1 0) (getD l 2 0) (digitOf (getD l 3 0))) in
+        q ∙ z ∙ zoned-child n (digitOf (getD l 1 0)) (digitOf (getD l 2 0)) (digitOf (getD l 3 0)) ∙ rw (four l h, e) refl
+
+    pub starts-north : {r : Read Node} → getD l 0 0 ≡ 78 → r ≡ zonedRead true b c d → r ≡ globeChild (take 4 (map digitOf l))
+    unfolding charOf
+    starts-north e q = starts true (letter-is _ 23 (omega arith) e) q
+
+    pub starts-south : {r : Read Node} → getD l 0 0 ≡ 83 → r ≡ zonedRead false b c d → r ≡ globeChild (take 4 (map digitOf l))
+    unfolding charOf
+    starts-south e q = starts false (letter-is _ 28 (omega arith) e) q

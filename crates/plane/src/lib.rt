@@ -122,14 +122,14 @@ fn begin(code: &[u8]) -> First
     requires { ⌜ 4 ≤ length (now code) ⌝ }
     ensures { λ r. ⌜ (firstRead r ≡ globeChild (take 4 (map digitOf (now (code .entry))))) × Ranged r ⌝ }
 {
-    let a = grid::digit(code[0]);
-    let b = grid::digit(code[1]);
-    let c = grid::digit(code[2]);
+    let a = code[0];
+    let b = grid::decimal(code[1]);
+    let c = grid::decimal(code[2]);
     let d = grid::digit(code[3]);
-    if a == 23 {
+    if a == b'N' {
         return zoned(true, b, c, d);
     }
-    if a == 28 {
+    if a == b'S' {
         return zoned(false, b, c, d);
     }
     First::Bad(0)

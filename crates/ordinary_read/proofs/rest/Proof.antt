@@ -5,7 +5,7 @@ use Prim.Native.Nat.{ℕ}
 use borrow.Author.Needs.{needs}
 use Rattle.grid.specs.Plane.{sheet}
 use Rattle.ordinary_read.specs.declared.Cursor.{Cursor}
-use Rattle.ordinary_read.proofs.Levels.{At, begins, ready, through, together}
+use Rattle.ordinary_read.proofs.Levels.{At, begins, ready, decimal, through, together}
 use Rattle.ordinary_read.proofs.rest.Statement.{statement}
 use Rattle.ordinary_read.proofs.rest.Tie as tie
 
@@ -31,17 +31,17 @@ stage-4 c = through 3 (stage-3 (c .before .before)) (c .before .split-of4 .ensur
 stage-5 : (c : tie.After-next5) → Stage (c .before .before .before .before .before .before .before .before .before .before .before .before) 5 (c .next5 .result)
 stage-5 c = through 4 (stage-4 (c .before .before)) (c .before .split-of5 .ensures) (c .next5 .ensures)
 
-stage-6 : (c : tie.After-next6) → Stage (c .before .before .before .before .before .before .before .before .before .before .before .before .before .before) 6 (c .next6 .result)
-stage-6 c = through 5 (stage-5 (c .before .before)) (c .before .split-of6 .ensures) (c .next6 .ensures)
+stage-6 : (c : tie.After-next-decimal) → Stage (c .before .before .before .before .before .before .before .before .before .before .before .before .before .before) 6 (c .next-decimal .result)
+stage-6 c = through 5 (stage-5 (c .before .before)) (c .before .split-of6 .ensures) (c .next-decimal .ensures)
 
-stage-7 : (c : tie.After-next7) → Stage (c .before .before .before .before .before .before .before .before .before .before .before .before .before .before .before .before) 7 (c .next7 .result)
-stage-7 c = through 6 (stage-6 (c .before .before)) (c .before .split-of7 .ensures) (c .next7 .ensures)
+stage-7 : (c : tie.After-next-decimal2) → Stage (c .before .before .before .before .before .before .before .before .before .before .before .before .before .before .before .before) 7 (c .next-decimal2 .result)
+stage-7 c = through 6 (stage-6 (c .before .before)) (c .before .split-of7 .ensures) (c .next-decimal2 .ensures)
 
-stage-8 : (c : tie.After-next8) → Stage (c .before .before .before .before .before .before .before .before .before .before .before .before .before .before .before .before .before .before) 8 (c .next8 .result)
-stage-8 c = through 7 (stage-7 (c .before .before)) (c .before .split-of8 .ensures) (c .next8 .ensures)
+stage-8 : (c : tie.After-next-decimal3) → Stage (c .before .before .before .before .before .before .before .before .before .before .before .before .before .before .before .before .before .before) 8 (c .next-decimal3 .result)
+stage-8 c = through 7 (stage-7 (c .before .before)) (c .before .split-of8 .ensures) (c .next-decimal3 .ensures)
 
-stage-9 : (c : tie.After-next9) → Stage (c .before .before .before .before .before .before .before .before .before .before .before .before .before .before .before .before .before .before .before .before) 9 (c .next9 .result)
-stage-9 c = through 8 (stage-8 (c .before .before)) (c .before .split-of9 .ensures) (c .next9 .ensures)
+stage-9 : (c : tie.After-next-decimal4) → Stage (c .before .before .before .before .before .before .before .before .before .before .before .before .before .before .before .before .before .before .before .before) 9 (c .next-decimal4 .result)
+stage-9 c = through 8 (stage-8 (c .before .before)) (c .before .split-of9 .ensures) (c .next-decimal4 .ensures)
 
 start-requires : tie.Need-start-requires
 start-requires c κs = search needs
@@ -79,26 +79,26 @@ next-requires-5 c κs = ready 4 (stage-4 (c .before)) (c .split-of5 .ensures) (o
 split-of-requires-6 : tie.Need-split-of-requires-6
 split-of-requires-6 c κs = search needs
 
-next-requires-6 : tie.Need-next-requires-6
-next-requires-6 c κs = ready 5 (stage-5 (c .before)) (c .split-of6 .ensures) (omega arith)
+next-decimal-requires : tie.Need-next-decimal-requires
+next-decimal-requires c κs = (ready 5 (stage-5 (c .before)) (c .split-of6 .ensures) (omega arith), decimal 0 (c .split-of6 .ensures) (omega arith))
 
 split-of-requires-7 : tie.Need-split-of-requires-7
 split-of-requires-7 c κs = search needs
 
-next-requires-7 : tie.Need-next-requires-7
-next-requires-7 c κs = ready 6 (stage-6 (c .before)) (c .split-of7 .ensures) (omega arith)
+next-decimal-requires-2 : tie.Need-next-decimal-requires-2
+next-decimal-requires-2 c κs = (ready 6 (stage-6 (c .before)) (c .split-of7 .ensures) (omega arith), decimal 1 (c .split-of7 .ensures) (omega arith))
 
 split-of-requires-8 : tie.Need-split-of-requires-8
 split-of-requires-8 c κs = search needs
 
-next-requires-8 : tie.Need-next-requires-8
-next-requires-8 c κs = ready 7 (stage-7 (c .before)) (c .split-of8 .ensures) (omega arith)
+next-decimal-requires-3 : tie.Need-next-decimal-requires-3
+next-decimal-requires-3 c κs = (ready 7 (stage-7 (c .before)) (c .split-of8 .ensures) (omega arith), decimal 2 (c .split-of8 .ensures) (omega arith))
 
 split-of-requires-9 : tie.Need-split-of-requires-9
 split-of-requires-9 c κs = search needs
 
-next-requires-9 : tie.Need-next-requires-9
-next-requires-9 c κs = ready 8 (stage-8 (c .before)) (c .split-of9 .ensures) (omega arith)
+next-decimal-requires-4 : tie.Need-next-decimal-requires-4
+next-decimal-requires-4 c κs = (ready 8 (stage-8 (c .before)) (c .split-of9 .ensures) (omega arith), decimal 3 (c .split-of9 .ensures) (omega arith))
 
 answer-requires : tie.Need-answer-requires
 answer-requires c κs g = stage-9 c .reached g .0
@@ -124,12 +124,12 @@ rest-spec =
     split-of-requires-5
     next-requires-5
     split-of-requires-6
-    next-requires-6
+    next-decimal-requires
     split-of-requires-7
-    next-requires-7
+    next-decimal-requires-2
     split-of-requires-8
-    next-requires-8
+    next-decimal-requires-3
     split-of-requires-9
-    next-requires-9
+    next-decimal-requires-4
     answer-requires
     returns)
