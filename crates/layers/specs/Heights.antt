@@ -12,6 +12,8 @@ use Rattle.grid.specs.Layers.{product, rise, Stack, all, part, Radix, layers, f
 use Rattle.layers.specs.declared.AskedLayer.{AskedLayer}
 use Rattle.layers.specs.declared.AskedLayer.the-variants.{At, Outside}
 use Rattle.layers.specs.declared.Height.{Height}
+use Rattle.layers.specs.declared.LayersRead.{LayersRead}
+use Rattle.layers.specs.declared.LayersRead.the-variants.{Found, Bad}
 
 -- a level after the first has one character
 abbrev pub later : ℕ → Radix
@@ -38,6 +40,11 @@ layerOf top above n = floorOf top (part above n 1)
 abbrev pub askedOf : List ℕ → ℤ → AskedLayer
 askedOf rs z = cond (ltb (index z) (product rs)) (At (side z) (rise (product rs) z)) Outside
 
--- what a reader of height characters found: so many layers from a lowest one on, or the place of the first bad digit
+-- a height reader's answer: so many layers from a lowest one on, or the place of the first bad character
+abbrev pub layersRead : LayersRead → Read Stack
+layersRead (Found above low thick) = ok (part above low thick)
+layersRead (Bad p) = bad p
+
+-- what was read so far, by the reader's cursor
 abbrev pub heightOf : Height → Read Stack
 heightOf h = cond (h .good) (ok (part (h .above) (h .low) (h .thick))) (bad (h .place))

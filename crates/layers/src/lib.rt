@@ -8,7 +8,7 @@ ghost use lib.ListN.{length};
 ghost use lib.Seq.{sets};
 ghost use Rattle.grid.specs.Characters.{charOf, digitOf};
 ghost use Rattle.grid.specs.Layers.{radices, product, sign, part, floorOf};
-ghost use Rattle.layers.specs.Heights.{heightDigits, heightRead, layerOf, askedOf, heightOf};
+ghost use Rattle.layers.specs.Heights.{heightDigits, heightRead, layerOf, askedOf, heightOf, layersRead};
 ghost use Rattle.layers.specs.Steps.{Fair, thicknessAt, charsAt, Writable, Readable, BadAt, First, Upto};
 
 // Document 01's radices, from the coarsest.
@@ -20,14 +20,20 @@ pub enum AskedLayer {
     Outside,
 }
 
-// The reading place, and the layers read so far: above ground or below, the lowest one's rise, and how many they are.
+// What height characters lead to: layers above ground or below, the lowest one's rise, and how many they are; or the place of the first character that is not allowed.
+pub enum LayersRead {
+    Found(bool, u32, u32),
+    Bad(usize),
+}
+
+// The reading place, and the layers read so far.
 // Once a character is not allowed the height is no longer good, and its place is that character's.
-pub struct Height {
-    pub good: bool,
-    pub place: usize,
-    pub above: bool,
-    pub low: u32,
-    pub thick: u32,
+struct Height {
+    good: bool,
+    place: usize,
+    above: bool,
+    low: u32,
+    thick: u32,
 }
 
 // How many layers a cell of level k has: the product of the radices after it.
@@ -205,12 +211,23 @@ impl Height {
             thick: t,
         }
     }
+
+    // What the reader answers.
+    fn answer(self) -> LayersRead
+        ensures { λ r. ⌜ layersRead r ≡ heightOf self ⌝ }
+    {
+        if self.good {
+            LayersRead::Found(self.above, self.low, self.thick)
+        } else {
+            LayersRead::Bad(self.place)
+        }
+    }
 }
 
 // All the levels, over any radices.
-fn read_over(rs: [u32; 10], level: u32, digits: &[u8]) -> Height
+fn read_over(rs: [u32; 10], level: u32, digits: &[u8]) -> LayersRead
     requires { ⌜ Fair rs × Readable level (length (now digits)) ⌝ }
-    ensures { λ r. ⌜ heightOf r ≡ heightRead rs level (map digitOf (now (digits .entry))) ⌝ }
+    ensures { λ r. ⌜ layersRead r ≡ heightRead rs level (map digitOf (now (digits .entry))) ⌝ }
 {
     Height::start(rs, level, digits)
         .next(rs, level, 1, digits)
@@ -222,12 +239,13 @@ fn read_over(rs: [u32; 10], level: u32, digits: &[u8]) -> Height
         .next(rs, level, 7, digits)
         .next(rs, level, 8, digits)
         .next(rs, level, 9, digits)
+        .answer()
 }
 
 // The layers that the height characters of a code of a level lead to, or the place of the first that is not allowed, among these alone.
-pub fn read(level: u32, digits: &[u8]) -> Height
+pub fn read(level: u32, digits: &[u8]) -> LayersRead
     requires { ⌜ Readable level (length (now digits)) ⌝ }
-    ensures { λ r. ⌜ heightOf r ≡ heightRead radices level (map digitOf (now (digits .entry))) ⌝ }
+    ensures { λ r. ⌜ layersRead r ≡ heightRead radices level (map digitOf (now (digits .entry))) ⌝ }
 {
     read_over(RADICES, level, digits)
 }

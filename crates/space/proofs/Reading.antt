@@ -26,13 +26,14 @@ use Rattle.grid.proofs.LayerLaws.{layer-laws, fitsAll}
 use Rattle.grid.proofs.BothLaws.{ones, twos}
 use Rattle.grid.proofs.Families.{Sound, lenIn, level-length, length-level}
 use Rattle.grid.proofs.Theorems.{plane-sound, radices-sound}
-use Rattle.layers.specs.declared.Height.{Height}
-use Rattle.layers.specs.Heights.{heightLevels, heightRead, heightOf}
+use Rattle.layers.specs.declared.LayersRead.{LayersRead}
+use Rattle.layers.specs.declared.LayersRead.the-variants as layers-as
+use Rattle.layers.specs.Heights.{heightLevels, heightRead, layersRead}
 use Rattle.layers.proofs.Radices.{radices-fair}
 use Rattle.layers.proofs.Inside.{read-inside}
 use Rattle.plane.specs.Text.{orZero}
 use Rattle.space.specs.Weave.{Strand, firsts, seconds, placeTwo, together}
-use Rattle.space.specs.Space.{spaceLevelOf, tenStrands, planePart, heightPart, planePlace, heightPlace, joinedAnswer}
+use Rattle.space.specs.Space.{spaceLevelOf, tenStrands, planePart, heightPart, planePlace, heightPlace, joinedAnswer, Lying}
 use Rattle.space.proofs.Weaving.{strands, sliced-one, sliced-two, parts-map, follow-woven}
 use Rattle.space.proofs.Parts.{
   top,
@@ -162,7 +163,6 @@ read-joined w l t {a = a} {b = b} e f g =
     ∙ read-parts l (t .low) (t .high) w (t .long) (t .place)
 
 -- layers that were read lie in their range
-pub low-inside : (l : ℕ) (ds : List ℕ) (h : Height) → h .good ≡ true → heightOf h ≡ heightRead radices l ds → h .low < product radices
-low-inside l ds h g e =
-    let r = read-inside radices l ds radices-fair (sym e ∙ (let z : heightOf h ≡ ok (part (h .above) (h .low) (h .thick)) = rw g refl in z)) in
-    omega (arith, r .0, r .1)
+pub lying : (l : ℕ) (ds : List ℕ) (h : LayersRead) → layersRead h ≡ heightRead radices l ds → Lying h
+lying l ds (layers-as.Found above low thick) e = let r = read-inside radices l ds radices-fair (sym e) in omega (arith, r .0, r .1)
+lying l ds (layers-as.Bad p) e = tt

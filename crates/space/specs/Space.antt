@@ -20,6 +20,8 @@ use Rattle.grid.specs.Laying.{Text, refuse, text, unless}
 use Rattle.grid.specs.Layers.{radices, product, Stack, floorOf, thicknessOf}
 use Rattle.grid.specs.Space.{spaceCodeOf, spaceLengths}
 use Rattle.plane.specs.Text.{levelNumber, orZero}
+use Rattle.layers.specs.declared.LayersRead.{LayersRead}
+use Rattle.layers.specs.declared.LayersRead.the-variants as layers
 use Rattle.layers.specs.Heights.{layerOf}
 use Rattle.space.specs.declared.AskedSpace.{AskedSpace}
 use Rattle.space.specs.declared.AskedSpace.the-variants.{At, Unmet}
@@ -103,3 +105,8 @@ joinedAnswer (accepted c) (ok m) = accepted (record { cell = c; floor = floorOf 
 joinedAnswer (accepted c) (bad q) = refused (wrongCharacter (heightPlace q))
 joinedAnswer (refused r) (ok m) = refused (wrongCharacter (planePlace (r .place)))
 joinedAnswer (refused r) (bad q) = refused (wrongCharacter (min (planePlace (r .place)) (heightPlace q)))
+
+-- layers that were read lie in their range
+abbrev pub Lying : LayersRead → Type 0
+Lying (layers.Found above low thick) = low < product radices
+Lying (layers.Bad p) = Unit {0}

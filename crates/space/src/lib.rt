@@ -14,8 +14,9 @@ ghost use Rattle.grid.specs.Units.{squareOf};
 ghost use Rattle.grid.specs.Characters.{digitOf};
 ghost use Rattle.grid.specs.Splits.{splitAt};
 ghost use Rattle.grid.specs.Plane.{cellOf};
-ghost use Rattle.grid.specs.Layers.{radices, product};
-ghost use Rattle.layers.specs.Heights.{heightOf, heightRead, layerOf};
+ghost use Rattle.grid.specs.Layers.{radices, product, part};
+ghost use Rattle.grid.specs.Tree.{ok, bad};
+ghost use Rattle.layers.specs.Heights.{layersRead, heightRead, layerOf};
 ghost use Rattle.space.specs.Weave.{weave};
 ghost use Rattle.space.specs.Space.{
   spaceText,
@@ -31,6 +32,7 @@ ghost use Rattle.space.specs.Space.{
   planePlace,
   heightPlace,
   joinedAnswer,
+  Lying,
 };
 use grid::Cell;
 use grid::Place;
@@ -39,7 +41,7 @@ use grid::Refusal;
 use grid::SpaceCell;
 use grid::Written;
 use layers::AskedLayer;
-use layers::Height;
+use layers::LayersRead;
 use plane::Asked;
 
 // A space reader's answer.
@@ -342,39 +344,40 @@ fn lesser(a: usize, b: usize) -> usize
     if a < b { a } else { b }
 }
 
-// A plane cell with the layers that were read over it.
-fn over_cell(c: Cell, h: Height) -> SpaceRead
-    requires { ⌜ (h .good ≡ true → h .low < product radices) ⌝ }
-    ensures { λ r. ⌜ spaceRead r ≡ joinedAnswer (accepted c) (heightOf h) ⌝ }
-{
-    if h.good {
-        return SpaceRead::Found(SpaceCell {
-            cell: c,
-            floor: layers::floor(h.above, h.low),
-            thickness: h.thick,
-        });
-    }
-    bad_at(height_place(h.place))
-}
-
-// A bad plane character, unless a bad height character stands before it.
-fn over_refusal(q: Refusal, h: Height) -> SpaceRead
-    ensures { λ r. ⌜ spaceRead r ≡ joinedAnswer (refused q) (heightOf h) ⌝ }
-{
-    let p = plane_place(q.place);
-    if h.good {
-        return bad_at(p);
-    }
-    bad_at(lesser(p, height_place(h.place)))
-}
-
-fn joined(a: PlaneRead, h: Height) -> SpaceRead
-    requires { ⌜ (h .good ≡ true → h .low < product radices) ⌝ }
-    ensures { λ r. ⌜ spaceRead r ≡ joinedAnswer (planeRead a) (heightOf h) ⌝ }
+// The plane's answer over layers that were read: the cell with them, or the bad plane character.
+fn over_layers(a: PlaneRead, above: bool, low: u32, thick: u32) -> SpaceRead
+    requires { ⌜ low < product radices ⌝ }
+    ensures { λ r. ⌜ spaceRead r ≡ joinedAnswer (planeRead a) (ok (part above low thick)) ⌝ }
 {
     match a {
-        PlaneRead::Found(c) => over_cell(c, h),
-        PlaneRead::Refused(q) => over_refusal(q, h),
+        PlaneRead::Found(c) => SpaceRead::Found(SpaceCell {
+            cell: c,
+            floor: layers::floor(above, low),
+            thickness: thick,
+        }),
+        PlaneRead::Refused(q) => bad_at(plane_place(q.place)),
+    }
+}
+
+// A bad height character, unless a bad plane character stands before it.
+fn over_bad(a: PlaneRead, p: usize) -> SpaceRead
+    ensures { λ r. ⌜ spaceRead r ≡ joinedAnswer (planeRead a) (bad p) ⌝ }
+{
+    let high = height_place(p);
+    match a {
+        PlaneRead::Found(c) => bad_at(high),
+        PlaneRead::Refused(q) => bad_at(lesser(plane_place(q.place), high)),
+    }
+}
+
+// Both answers together.
+fn joined(a: PlaneRead, h: LayersRead) -> SpaceRead
+    requires { ⌜ Lying h ⌝ }
+    ensures { λ r. ⌜ spaceRead r ≡ joinedAnswer (planeRead a) (layersRead h) ⌝ }
+{
+    match h {
+        LayersRead::Found(above, low, thick) => over_layers(a, above, low, thick),
+        LayersRead::Bad(p) => over_bad(a, p),
     }
 }
 
@@ -389,9 +392,9 @@ fn plane_of(level: u32, code: &[u8]) -> PlaneRead
 }
 
 // The height characters of a space code, read.
-fn height_of(level: u32, code: &[u8]) -> Height
+fn height_of(level: u32, code: &[u8]) -> LayersRead
     requires { ⌜ (1 ≤ level) × (level ≤ 10) ⌝ }
-    ensures { λ r. ⌜ heightOf r ≡ heightRead radices level (map digitOf (take (2 + level) (heightPart (now (code .entry))))) ⌝ }
+    ensures { λ r. ⌜ layersRead r ≡ heightRead radices level (map digitOf (take (2 + level) (heightPart (now (code .entry))))) ⌝ }
 {
     let h = height_part(code);
     let n = 2 + level as usize;

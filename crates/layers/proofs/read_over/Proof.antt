@@ -1,4 +1,5 @@
 -- `layers::read_over` meets its contract: each call reads its level. Assumes nothing.
+use mathlib.Core.Path.{_∙_}
 use native.Mathlib.Omega.{arith}
 use Rattle.layers.proofs.Reading.{upto-all}
 use borrow.Author.Needs.{needs}
@@ -35,8 +36,11 @@ next-requires-8 c κs = let s = c .before .before .before .before .before .befor
 next-requires-9 : tie.Need-next-requires-9
 next-requires-9 c κs = let s = c .before .before .before .before .before .before .before .before .before .before in (s .pre .0, omega arith, omega arith, s .pre .1, c .next8 .ensures)
 
+answer-requires : tie.Need-answer-requires
+answer-requires c κs = search needs
+
 returns : tie.Need-returns
-returns c = let s = c .before .before .before .before .before .before .before .before .before .before .before in upto-all (s .args .rs) (s .args .level) (s .args .digits .now) (s .pre .0) (s .pre .1) (c .next9 .ensures)
+returns c = let s = c .before .before .before .before .before .before .before .before .before .before .before .before in c .answer .ensures ∙ upto-all (s .args .rs) (s .args .level) (s .args .digits .now) (s .pre .0) (s .pre .1) (c .before .next9 .ensures)
 
 pub read-over-spec : {M : Type 1} → statement M
 read-over-spec =
@@ -52,4 +56,5 @@ read-over-spec =
     next-requires-7
     next-requires-8
     next-requires-9
+    answer-requires
     returns)

@@ -1,38 +1,35 @@
 -- `space::joined` meets its contract. Assumes nothing.
-use mathlib.Core.Path.{_≡_, sym, _∙_, ap}
-use Rattle.grid.specs.declared.PlaneRead.{PlaneRead}
-use Rattle.grid.specs.Answers.{planeRead}
-use Rattle.layers.specs.Heights.{heightOf}
-use Rattle.space.specs.Space.{joinedAnswer}
+use mathlib.Core.Path.{refl, _∙_, subst}
+use Rattle.space.specs.Space.{Lying}
 use borrow.Author.Needs.{needs}
 use Rattle.space.proofs.joined.Statement.{statement}
 use Rattle.space.proofs.joined.Tie as tie
 
-enum-known-a : tie.Need-enum-known-a
-enum-known-a c = search needs
+enum-known-h : tie.Need-enum-known-h
+enum-known-h c = search needs
 
-over-cell-requires : tie.Need-over-cell-requires
-over-cell-requires c κs = search needs
+over-layers-requires : tie.Need-over-layers-requires
+over-layers-requires c κs = subst Lying (c .before .h .given .1) (c .before .before .before .pre)
 
-enum-known-a-2 : tie.Need-enum-known-a-2
-enum-known-a-2 c = search needs
+enum-known-h-2 : tie.Need-enum-known-h-2
+enum-known-h-2 c = search needs
 
-over-refusal-requires : tie.Need-over-refusal-requires
-over-refusal-requires c κs = search needs
+over-bad-requires : tie.Need-over-bad-requires
+over-bad-requires c κs = search needs
 
 returns : tie.Need-returns
-returns c = c .over-cell .ensures ∙ ap (λ (a : PlaneRead). joinedAnswer (planeRead a) (heightOf (c .before .before .before .before .args .h))) (sym (c .before .before .a .given .1))
+returns c = c .over-layers .ensures ∙ rw (c .before .before .h .given .1) refl
 
 returns-2 : tie.Need-returns-2
-returns-2 c = c .over-refusal .ensures ∙ ap (λ (a : PlaneRead). joinedAnswer (planeRead a) (heightOf (c .before .before .before .before .args .h))) (sym (c .before .before .a2 .given .1))
+returns-2 c = c .over-bad .ensures ∙ rw (c .before .before .h2 .given .1) refl
 
 pub joined-spec : {M : Type 1} → statement M
 joined-spec =
     tie.close
     (tie.spec
-    enum-known-a
-    over-cell-requires
-    enum-known-a-2
-    over-refusal-requires
+    enum-known-h
+    over-layers-requires
+    enum-known-h-2
+    over-bad-requires
     returns
     returns-2)

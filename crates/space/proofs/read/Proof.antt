@@ -1,14 +1,8 @@
 -- `space::read` meets its contract. Assumes nothing.
-use mathlib.Core.Path.{_≡_, sym, _∙_, ap}
-use mathlib.Core.Bool.{Bool, true, false, cond}
-use Prim.Native.Nat.{ℕ, _<_, _+_, _≤_}
-use native.Mathlib.Omega.{arith}
-use mathlib.Core.List.{map}
-use lib.ListN.{length, take}
+use mathlib.Core.Path.{_∙_, ap}
+use lib.ListN.{length}
 use Rattle.grid.specs.Answers as answers
-use Rattle.grid.specs.Characters.{digitOf}
-use Rattle.space.specs.Space.{heightPart}
-use Rattle.space.proofs.Reading.{Leveled, leveled, read-none, read-joined, low-inside}
+use Rattle.space.proofs.Reading.{Leveled, leveled, read-none, read-joined, lying}
 use borrow.Author.Needs.{needs}
 use Rattle.space.proofs.read.Statement.{statement}
 use Rattle.space.proofs.read.Tie as tie
@@ -33,9 +27,7 @@ height-of-requires : tie.Need-height-of-requires
 height-of-requires c κs = let t = known (c .before) in (t .low, t .high)
 
 joined-requires : tie.Need-joined-requires
-joined-requires c κs =
-    λ g. low-inside (c .before .before .before .level-of .result)
-    (map digitOf (take (2 + c .before .before .before .level-of .result) (heightPart (c .before .before .before .before .before .args .code .now)))) (c .height-of .result) g (c .height-of .ensures)
+joined-requires c κs = lying (c .before .before .before .level-of .result) _ (c .height-of .result) (c .height-of .ensures)
 
 returns-2 : tie.Need-returns-2
 returns-2 c =

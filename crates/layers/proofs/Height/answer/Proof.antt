@@ -1,0 +1,13 @@
+-- `layers::Height::answer` meets its contract. Assumes nothing.
+use mathlib.Core.Path.{refl}
+use Rattle.layers.proofs.Height.answer.Statement.{statement}
+use Rattle.layers.proofs.Height.answer.Tie as tie
+
+returns : tie.Need-returns
+returns c = rw (c .if1 .taken) refl
+
+returns-2 : tie.Need-returns-2
+returns-2 c = rw (c .if1 .left) refl
+
+pub answer-spec : {M : Type 1} → statement M
+answer-spec = tie.close (tie.spec returns returns-2)

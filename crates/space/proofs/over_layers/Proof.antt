@@ -1,0 +1,45 @@
+-- `space::over_layers` meets its contract. Assumes nothing.
+use mathlib.Core.Path.{refl, _∙_}
+use mir.Syntax.{w32}
+use mir.Facts.{toZ-ofZ}
+use borrow.Author.Needs.{needs}
+use Rattle.space.proofs.over_layers.Statement.{statement}
+use Rattle.space.proofs.over_layers.Tie as tie
+
+enum-known-a : tie.Need-enum-known-a
+enum-known-a c = search needs
+
+floor-requires : tie.Need-floor-requires
+floor-requires c κs = search needs
+
+enum-known-a-2 : tie.Need-enum-known-a-2
+enum-known-a-2 c = search needs
+
+plane-place-requires : tie.Need-plane-place-requires
+plane-place-requires c κs = search needs
+
+bad-at-requires : tie.Need-bad-at-requires
+bad-at-requires c κs = search needs
+
+returns : tie.Need-returns
+returns c =
+    rw (
+      c .before .before .a .given .1,
+      toZ-ofZ {w = w32} {z = c .floor .result} (record { sfits = c .floor .ok }),
+      c .floor .ensures (c .before .before .before .before .args .thick),
+    ) refl
+
+returns-2 : tie.Need-returns-2
+returns-2 c = c .bad-at .ensures ∙ rw (c .before .plane-place .ensures, c .before .before .before .a2 .given .1) refl
+
+pub over-layers-spec : {M : Type 1} → statement M
+over-layers-spec =
+    tie.close
+    (tie.spec
+    enum-known-a
+    floor-requires
+    enum-known-a-2
+    plane-place-requires
+    bad-at-requires
+    returns
+    returns-2)
