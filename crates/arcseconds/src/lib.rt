@@ -157,7 +157,7 @@ pub fn box_of(c: Cell) -> ArcBox
 }
 
 // What a plane reader's answer comes to: the cell's box, or the same refusal, 6 or 7.
-pub fn box_answer(r: PlaneRead) -> BoxRead
+fn box_answer(r: PlaneRead) -> BoxRead
     ensures { λ b. ⌜ BoxSays (planeRead r) b ⌝ }
 {
     match r {

@@ -1,18 +1,21 @@
 -- How long plane codes are: the table's lengths add up, and the code of a level has the length of its line.
 -- Assumes nothing.
 use mathlib.Core.Path.{_≡_, refl, _∙_}
+use mathlib.Core.Bool.{Bool, true, _&&_}
+use mathlib.Core.List.{List, [], _∷_}
+use mathlib.Core.Option.{none}
 use Prim.Native.Nat.{ℕ, zero, suc, _+_, _-_, _≤_, _<_}
 use native.Mathlib.Omega.{arith}
-use lib.Dec.{leb, eqb}
+use lib.Dec.{ltb, leb, eqb}
 use lib.ListN.{length, take, length-map}
-use borrow.Author.Tests.{leb-true, eqb-true}
+use borrow.Author.Tests.{ltb-true, leb-true, eqb-true, ne-eqb}
 use Rattle.grid.specs.Units.{Square, OnGlobe}
 use Rattle.grid.specs.Characters.{charOf}
 use Rattle.grid.specs.Tree.{code}
-use Rattle.grid.specs.Codes.{codeIn}
+use Rattle.grid.specs.Codes.{placeIn, codeIn}
 use Rattle.grid.specs.Splits.{splits, splitAt, placeOf}
 use Rattle.grid.specs.Plane.{globe, plane, planeCodes, codeOf}
-use Rattle.grid.proofs.Cut.{allBelow, below}
+use Rattle.grid.proofs.Cut.{and-true, allBelow, below}
 use Rattle.grid.proofs.Laws.{total, length-code}
 use Rattle.grid.proofs.PlaneLaws.{splits-fit, laws}
 
@@ -35,6 +38,19 @@ pub total-length : (l : ℕ) → 1 ≤ l → l ≤ 10 → total plane (take l sp
 unfolding total
 total-length zero a b = absurd (omega arith)
 total-length (suc l) a b = eqb-true _ _ (below (λ l. eqb (total plane (take (suc l) splits)) (splitAt (suc l - 1) .length)) 10 l refl (omega arith))
+
+-- each number of a list is below m
+abbrev pub allUnder : ℕ → List ℕ → Bool
+allUnder m [] = true
+allUnder m (x ∷ xs) = ltb x m && allUnder m xs
+
+-- then a number from m on has no place in it
+pub no-place : (m n k : ℕ) (xs : List ℕ) → allUnder m xs ≡ true → m ≤ n → placeIn n k xs ≡ none
+no-place m n k [] e h = refl
+no-place m n k (x ∷ xs) e h =
+    let a = and-true (ltb x m) (allUnder m xs) e in
+    let l : x < m = ltb-true x m (a .0) in
+    rw (ne-eqb n x (λ q. omega arith)) (no-place m n (suc k) xs (a .1) h)
 
 -- ---- the codes
 
