@@ -29,15 +29,15 @@ use grid::Split;
 // The reading place, and the cell read so far: its quarter, the outward indices where it begins, and its size.
 // Once a character is not allowed the cursor is no longer good, and its place is that character's.
 // The bools stand together to keep it small: with eight bytes more the levels are no longer compiled into their caller.
-pub struct Cursor {
-    pub good: bool,
-    pub north: bool,
-    pub east: bool,
-    pub place: usize,
-    pub x: u32,
-    pub y: u32,
-    pub width: u32,
-    pub height: u32,
+struct Cursor {
+    good: bool,
+    north: bool,
+    east: bool,
+    place: usize,
+    x: u32,
+    y: u32,
+    width: u32,
+    height: u32,
 }
 
 impl Cursor {

@@ -73,7 +73,7 @@ pub fn level_of(n: usize) -> u32
 }
 
 // The first four characters: a sheet by zone and row, N000 or S000, or the place of the first bad one.
-pub enum First {
+enum First {
     Sheet(bool, u32, u32),
     Pole(bool),
     Bad(usize),

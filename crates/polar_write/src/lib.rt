@@ -33,18 +33,18 @@ const LAST: u32 = 663551999;
 const HIGH: u32 = 3686400;
 
 // Where a square stands: in a cap, x eastward and y from the pole; in another cell, both from its corner in its own directions.
-pub struct Spot {
-    pub cap: bool,
-    pub x: u32,
-    pub y: u32,
+struct Spot {
+    cap: bool,
+    x: u32,
+    y: u32,
 }
 
 // One level: how many columns there are, the square's column and row (at level 2 the two digits), and where it stands in that child.
-pub struct Step {
-    pub columns: u32,
-    pub column: u32,
-    pub row: u32,
-    pub rest: Spot,
+struct Step {
+    columns: u32,
+    column: u32,
+    row: u32,
+    rest: Spot,
 }
 
 // One level of a cap, e eastward and q from the pole: row 0 is the new cap, another row leaves it.

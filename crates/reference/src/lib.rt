@@ -33,7 +33,7 @@ const HALF: u32 = 1327104000;
 const POLAR: u32 = 648806400;
 
 // M and N as digits, or why there are none.
-pub enum Offset {
+enum Offset {
     By(u32, u32),
     Refused(Refusal),
 }
