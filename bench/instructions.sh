@@ -1,11 +1,14 @@
 #!/bin/sh
-# Instructions a call, counted by valgrind's callgrind, for each row of the benchmark's table: ours, the other, and their ratio.
-# instructions.sh [PART]: only rows with PART in their name; by default the rows held against plain Rust.
-# Counts do not move with the machine's load. The loop around the calls and what the caller does with the answer are in both.
+# Instructions a call, counted by valgrind's callgrind. Counts do not move with the machine's load; the loop around the calls and what the
+# caller does with the answer are in them.
+# instructions.sh [PART]    a table for the rows with PART in their name, by default those held against plain Rust: ours, the other, their ratio.
+# instructions.sh --held    counts ours for each row of instructions.txt, and fails where one takes over a thirtieth more than it says there.
+# instructions.sh --write   counts them and writes instructions.txt anew: after a change whose reason stands in docs/DECISIONS.md.
 set -eu
 here=$(cd "$(dirname "$0")" && pwd)
 tab=$(printf '\t')
 passes=2
+calls=$((passes * 4096))
 cd "$here"
 cargo build --release --quiet
 program="${CARGO_TARGET_DIR:-$here/target}/release/hailgully_bench"
@@ -20,15 +23,32 @@ count() {
     echo $(($(run "$1" "$2" $passes) - $(run "$1" "$2" 0)))
 }
 
-if [ $# -gt 0 ]; then
-    names=$("$program" --names --only "$1")
-else
-    names=$("$program" --names | grep "${tab}plain Rust\$")
-fi
+case ${1:-} in
+--held)
+    while IFS="$tab" read -r name held; do
+        case $name in '#'* | '') continue ;; esac
+        count "$name" ours | awk -v calls=$calls -v name="$name" -v held="$held" '
+            BEGIN { over = 1 }
+            { now = $1 / calls; over = now > held * 31 / 30; printf "%-34s %8.1f held %8.1f%s\n", name, now, held, over ? "  OVER" : "" }
+            END { exit over }' || over=1
+    done <instructions.txt
+    exit "${over:-0}"
+    ;;
+--write)
+    printf '# Instructions a call of ours takes, by instructions.sh; the gate fails where one takes over a thirtieth more.\n' >instructions.txt
+    "$program" --names | grep -v '^coarser' | while IFS="$tab" read -r name against; do
+        count "$name" ours | awk -v calls=$calls -v name="$name" '{ printf "%s\t%.1f\n", name, $1 / calls }' >>instructions.txt
+    done
+    cat instructions.txt
+    exit 0
+    ;;
+'') names=$("$program" --names | grep "${tab}plain Rust\$") ;;
+*) names=$("$program" --names --only "$1") ;;
+esac
 [ -n "$names" ] || { echo "instructions.sh: no such row" >&2; exit 1; }
 
 printf '%-34s %8s %8s %7s  %s\n' 'instructions a call' ours other ratio against
 echo "$names" | while IFS="$tab" read -r name against; do
-    echo "$(count "$name" ours) $(count "$name" other)" | awk -v calls=$((passes * 4096)) -v name="$name" -v against="$against" '{
+    echo "$(count "$name" ours) $(count "$name" other)" | awk -v calls=$calls -v name="$name" -v against="$against" '{
         printf "%-34s %8.1f %8.1f %7.2f  %s\n", name, $1 / calls, $2 / calls, $1 / $2, against }'
 done
