@@ -1,5 +1,5 @@
 -- `space::joined` meets its contract. Assumes nothing.
-use mathlib.Core.Path.{_≡_, sym, _∙_, ap}
+use mathlib.Core.Path.{sym, _∙_, ap}
 use Rattle.grid.specs.declared.PlaneRead.{PlaneRead}
 use Rattle.grid.specs.Answers.{planeRead}
 use Rattle.layers.specs.Heights.{heightOf}

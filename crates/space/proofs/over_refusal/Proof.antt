@@ -1,5 +1,5 @@
 -- `space::over_refusal` meets its contract. Assumes nothing.
-use mathlib.Core.Path.{_≡_, refl, _∙_, ap}
+use mathlib.Core.Path.{refl, _∙_}
 use borrow.Author.Needs.{needs}
 use Rattle.space.proofs.over_refusal.Statement.{statement}
 use Rattle.space.proofs.over_refusal.Tie as tie

@@ -1,8 +1,6 @@
 -- `space::read` meets its contract. Assumes nothing.
-use mathlib.Core.Path.{_≡_, sym, _∙_, ap}
-use mathlib.Core.Bool.{Bool, true, false, cond}
-use Prim.Native.Nat.{ℕ, _<_, _+_, _≤_}
-use native.Mathlib.Omega.{arith}
+use mathlib.Core.Path.{_∙_, ap}
+use Prim.Native.Nat.{_+_}
 use mathlib.Core.List.{map}
 use lib.ListN.{length, take}
 use Rattle.grid.specs.Answers as answers
