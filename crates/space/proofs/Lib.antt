@@ -1,6 +1,6 @@
 pub mod Weaving
 pub mod Tables
-pub mod Copying
+pub mod Spreading
 pub mod Parts
 pub mod Reading
 pub mod Writing

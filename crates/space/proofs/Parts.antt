@@ -1,24 +1,22 @@
 -- A space code's levels, seen as strands of plane characters and height characters. What is needed of all ten is tested by computing.
 -- Assumes nothing.
 use mathlib.Core.Path.{_≡_, refl, sym, _∙_, ap, subst}
-use mathlib.Core.Bool.{Bool, true, false, cond, _&&_}
-use mathlib.Core.List.{List, [], _∷_, _++_, map}
+use mathlib.Core.Bool.{true, cond}
+use mathlib.Core.List.{List, [], _∷_, map}
 use Prim.Native.Nat.{ℕ, zero, suc, _+_, _-_, _≤_, _<_}
 use native.Mathlib.Omega.{arith}
-use lib.Dec.{eqb, ltb, leb}
-use lib.ListN.{length, take, drop, getD, length-take}
+use lib.Dec.{eqb, ltb}
+use lib.ListN.{length, take, getD}
 use lib.Seq.{ext-getD, getD-take, length-take-le}
-use borrow.Author.Tests.{eqb-true, leb-true, lt-ltb}
-use Rattle.grid.specs.declared.Split.{Split}
+use borrow.Author.Tests.{eqb-true, lt-ltb}
 use Rattle.grid.specs.Units.{Cube, OnGrid}
-use Rattle.grid.specs.Tree.{Tree}
 use Rattle.grid.specs.Splits.{splits, splitAt}
-use Rattle.grid.specs.Plane.{plane, globe, planeCodes}
-use Rattle.grid.specs.Layers.{radices, product, all, Radix, layers}
-use Rattle.grid.specs.Both.{Pair, both}
+use Rattle.grid.specs.Plane.{plane, globe}
+use Rattle.grid.specs.Layers.{radices, product, all, layers}
+use Rattle.grid.specs.Both.{Pair}
 use Rattle.grid.specs.Space.{space, spaceLevels, spaceCodes, spaceLengths}
-use Rattle.grid.proofs.Cut.{and-true, below}
-use Rattle.grid.proofs.Laws.{Laws, total}
+use Rattle.grid.proofs.Cut.{below}
+use Rattle.grid.proofs.Laws.{total}
 use Rattle.grid.proofs.PlaneLaws.{laws}
 use Rattle.grid.proofs.LayerLaws.{layer-laws}
 use Rattle.grid.proofs.BothLaws.{ones, twos, InBoth, GoodBoth}
@@ -27,7 +25,7 @@ use Rattle.layers.specs.Heights.{heightLevels}
 use Rattle.space.specs.Weave.{Strand, both-of, parts, placeIn, firsts, seconds, placeOne, placeTwo}
 use Rattle.space.specs.Space.{tenStrands, countFrom, planePart, heightPart, planePlace, heightPlace}
 use Rattle.space.proofs.Weaving.{strands, each-some, counted, Sliced, sliced-one, sliced-two, parts-length, part-digit, place-fewer}
-use Rattle.space.proofs.Tables.{given-at, given-length}
+use Rattle.space.proofs.Tables.{length-few, given-at, given-length}
 
 abbrev pub top : ℕ
 top = product radices
@@ -92,7 +90,7 @@ ten (suc l) a b =
       one = eqb-true _ _ (below (λ l. eqb (counted (λ t. t .one) (take (suc l) tenStrands)) (splitAt (suc l - 1) .length)) 10 l refl (omega arith));
       two = eqb-true _ _ (below (λ l. eqb (counted (λ t. t .two) (take (suc l) tenStrands)) (2 + suc l)) 10 l refl (omega arith));
       all-of = eqb-true _ _ (below (λ l. eqb (counted both-of (take (suc l) tenStrands)) (getD spaceLengths (suc l - 1) 0)) 10 l refl (omega arith));
-      few-one = leb-true _ 20 (below (λ l. leb (splitAt (suc l - 1) .length) 20) 10 l refl (omega arith));
+      few-one = length-few (suc l) a b;
       few-two = omega arith;
       sum = eqb-true _ _ (below (λ l. eqb (total (space top) (take (suc l) levels)) (getD spaceLengths (suc l - 1) 0)) 10 l refl (omega arith));
     }

@@ -1,8 +1,8 @@
 -- The space reader's answer: what the plane reader and the height reader answer to their parts of the code, together.
 -- Assumes nothing.
 use mathlib.Core.Path.{_≡_, refl, sym, _∙_, ap, subst}
-use mathlib.Core.Bool.{Bool, true, false}
-use mathlib.Core.List.{List, [], _∷_, map}
+use mathlib.Core.Bool.{true}
+use mathlib.Core.List.{List, map}
 use mathlib.Core.Option.{Option, some, none}
 use Prim.Native.Nat.{ℕ, zero, suc, _+_, _-_, _≤_, _<_, min}
 use native.Mathlib.Omega.{arith}
@@ -13,18 +13,17 @@ use Rattle.grid.specs.declared.Cell.{Cell}
 use Rattle.grid.specs.declared.SpaceCell.{SpaceCell}
 use Rattle.grid.specs.Characters.{digitOf}
 use Rattle.grid.specs.Tree.{Read, ok, bad, follow}
-use Rattle.grid.specs.Answers.{Answer, accepted, refused, wrongLength, wrongCharacter}
+use Rattle.grid.specs.Answers.{Answer, refused, wrongLength, wrongCharacter}
 use Rattle.grid.specs.Codes.{placeIn, answer, answerAt, readIn}
 use Rattle.grid.specs.Splits.{splits, splitAt}
 use Rattle.grid.specs.Plane.{Node, globe, plane, planeCodes, cellOf}
 use Rattle.grid.specs.Layers.{radices, product, Stack, all, part, layers}
 use Rattle.grid.specs.Space.{space, spaceCodes, spaceCellOf, spaceLengths}
-use Rattle.grid.proofs.Cut.{clash, below}
-use Rattle.grid.proofs.Laws.{total, Ends, follow-ends}
+use Rattle.grid.proofs.Cut.{below}
+use Rattle.grid.proofs.Laws.{total, follow-ends}
 use Rattle.grid.proofs.PlaneLaws.{laws, splits-fit}
 use Rattle.grid.proofs.LayerLaws.{layer-laws, fitsAll}
-use Rattle.grid.proofs.BothLaws.{ones, twos}
-use Rattle.grid.proofs.Families.{Sound, lenIn, level-length, length-level}
+use Rattle.grid.proofs.Families.{level-length, length-level}
 use Rattle.grid.proofs.Theorems.{plane-sound, radices-sound}
 use Rattle.layers.specs.declared.LayersRead.{LayersRead}
 use Rattle.layers.specs.declared.LayersRead.the-variants as layers-as
@@ -33,8 +32,8 @@ use Rattle.layers.proofs.Radices.{radices-fair}
 use Rattle.layers.proofs.Inside.{read-inside}
 use Rattle.plane.specs.Text.{orZero}
 use Rattle.space.specs.Weave.{Strand, firsts, seconds, placeTwo, together}
-use Rattle.space.specs.Space.{spaceLevelOf, tenStrands, planePart, heightPart, planePlace, heightPlace, joinedAnswer, Lying}
-use Rattle.space.proofs.Weaving.{strands, sliced-one, sliced-two, parts-map, follow-woven}
+use Rattle.space.specs.Space.{spaceLevelOf, tenStrands, planePart, heightPart, planePlace, joinedAnswer, Lying}
+use Rattle.space.proofs.Weaving.{sliced-one, sliced-two, parts-map, follow-woven}
 use Rattle.space.proofs.Parts.{
   top,
   levels,

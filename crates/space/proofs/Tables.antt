@@ -1,19 +1,20 @@
--- The tables of space codes, each held to its rule by one computed test; and the lists of characters that are woven and taken apart.
+-- The tables of space codes, each held to its rule by one computed test; and lists that are given place by place.
 -- Assumes nothing.
 use mathlib.Core.Path.{_≡_, refl, sym, _∙_, ap}
-use mathlib.Core.Bool.{Bool, true, false, cond}
 use mathlib.Core.List.{List, [], _∷_, map}
 use Prim.Native.Nat.{ℕ, zero, suc, _+_, _-_, _≤_, _<_}
 use native.Mathlib.Omega.{arith}
 use lib.Dec.{eqb, leb}
-use lib.ListN.{length, getD, length-map, List·getD-eq-default}
-use lib.Seq.{ext-getD}
-use borrow.Author.Tests.{eqb-true, leb-true, ne-eqb, le-ltb}
+use lib.ListN.{length, take, getD, length-map}
+use lib.Seq.{ext-getD, getD-take, length-take-le}
+use borrow.Author.Tests.{eqb-true, leb-true, le-ltb}
 use Rattle.grid.specs.Space.{spaceLengths}
 use Rattle.grid.specs.Splits.{splitAt}
 use Rattle.grid.proofs.Cut.{Entry, tabled, below}
-use Rattle.space.specs.Weave.{weave, placeIn, placeOne, placeTwo}
-use Rattle.space.specs.Space.{spaceLevelOf, tenStrands, countFrom, planePlace, heightPlace}
+use Rattle.grid.proofs.Lengths.{no-place}
+use Rattle.plane.specs.Text.{orZero}
+use Rattle.space.specs.Weave.{placeIn}
+use Rattle.space.specs.Space.{spaceLevelOf, countFrom, planePlace, heightPlace, lengthSum, Room}
 
 -- ---- levels and lengths
 
@@ -27,19 +28,7 @@ level-at n h = tabled levels spaceLevelOf 33 n refl h
 
 pub level-none : (n : ℕ) → 33 ≤ n → 0 ≡ spaceLevelOf n
 unfolding spaceLevelOf
-level-none n h =
-    rw (
-      ne-eqb n 7 (λ e. omega arith),
-      ne-eqb n 10 (λ e. omega arith),
-      ne-eqb n 12 (λ e. omega arith),
-      ne-eqb n 15 (λ e. omega arith),
-      ne-eqb n 18 (λ e. omega arith),
-      ne-eqb n 20 (λ e. omega arith),
-      ne-eqb n 23 (λ e. omega arith),
-      ne-eqb n 26 (λ e. omega arith),
-      ne-eqb n 29 (λ e. omega arith),
-      ne-eqb n 32 (λ e. omega arith),
-    ) refl
+level-none n h = sym (ap orZero (no-place 33 n 1 spaceLengths refl h))
 
 -- a space code is as long as its plane code and two more than its level
 pub length-at : (l : ℕ) → 1 ≤ l → l ≤ 10 → splitAt (l - 1) .length + 2 + l ≡ getD spaceLengths (l - 1) 0
@@ -49,6 +38,13 @@ length-at (suc l) a b = eqb-true _ _ (below (λ l. eqb (splitAt (suc l - 1) .len
 pub length-few : (l : ℕ) → 1 ≤ l → l ≤ 10 → splitAt (l - 1) .length ≤ 20
 length-few zero a b = absurd (omega arith)
 length-few (suc l) a b = leb-true _ 20 (below (λ l. leb (splitAt (suc l - 1) .length) 20) 10 l refl (omega arith))
+
+-- a line with room for a space code
+pub room-in : (l : ℕ) (line : List ℕ) → 1 ≤ l → l ≤ 10 → getD spaceLengths (l - 1) 0 ≤ length line → Room l line
+room-in zero line a b h = absurd (omega arith)
+room-in (suc l) line a b h =
+    let e : lengthSum (suc l) ≡ getD spaceLengths (suc l - 1) 0 = eqb-true _ _ (below (λ l. eqb (lengthSum (suc l)) (getD spaceLengths (suc l - 1) 0)) 10 l refl (omega arith)) in
+    record { level-low = a; level-high = b; room = omega arith }
 
 -- ---- places
 
@@ -99,12 +95,9 @@ given-at f n p h =
 pub given-length : (f : ℕ → ℕ) (n : ℕ) → length (map f (countFrom 0 n)) ≡ n
 given-length f n = length-map (countFrom 0 n) f ∙ count-length 0 n
 
--- a list of n elements is the list of them
-pub listed : (n : ℕ) (l : List ℕ) → length l ≡ n → l ≡ map (λ p. getD l p 0) (countFrom 0 n)
-listed n l e =
-    ext-getD 0 l (map (λ p. getD l p 0) (countFrom 0 n)) (e ∙ sym (given-length (λ p. getD l p 0) n)) (λ i h. sym (given-at (λ p. getD l p 0) n i (omega arith)))
-
--- weaving twenty and twelve characters
-pub woven-list : (p h : List ℕ) → length p ≡ 20 → length h ≡ 12
-    → weave tenStrands (map (λ i. getD p i 0) (countFrom 0 20)) (map (λ i. getD h i 0) (countFrom 0 12)) ≡ weave tenStrands p h
-woven-list p h lp lh = rw (← listed 20 p lp, ← listed 12 h lh) refl
+-- the first n elements of a list are the list of them
+pub listed : (n : ℕ) (l : List ℕ) → n ≤ length l → take n l ≡ map (λ p. getD l p 0) (countFrom 0 n)
+listed n l h =
+    let f : ℕ → ℕ = λ p. getD l p 0 in
+    let e : length (take n l) ≡ n = length-take-le n l h in
+    ext-getD 0 (take n l) (map f (countFrom 0 n)) (e ∙ sym (given-length f n)) (λ i k. getD-take n l i 0 (omega arith) ∙ sym (given-at f n i (omega arith)))

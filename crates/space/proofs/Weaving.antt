@@ -3,19 +3,19 @@
 use mathlib.Core.Path.{_≡_, refl, sym, _∙_, ap, subst}
 use mathlib.Core.Bool.{Bool, true, false, cond, _&&_}
 use mathlib.Core.List.{List, [], _∷_, _++_, map, map-append}
-use Prim.Native.Nat.{ℕ, zero, suc, _+_, _-_, _≤_, _<_, min}
+use Prim.Native.Nat.{ℕ, zero, suc, _+_, _-_, _≤_, _<_}
 use native.Mathlib.Omega.{arith}
 use lib.Dec.{ltb}
-use lib.ListN.{length, take, drop, getD, length-append, length-take, length-drop, List·getD-append}
-use lib.Seq.{take-at, drop-at, take-append-le, drop-append-le, take-append-add, length-take-le, getD-take, getD-drop, getD-append-add}
+use lib.ListN.{length, take, drop, getD, length-append, length-drop, List·getD-append}
+use lib.Seq.{take-at, drop-at, length-take-le, getD-take, getD-drop, getD-append-add}
 use borrow.Author.Tests.{lt-ltb, le-ltb, ltb-true, ltb-false}
-use Rattle.grid.specs.Tree.{Tree, Read, ok, bad, shift, next, reached, code, follow}
+use Rattle.grid.specs.Tree.{Tree, Read, ok, bad, shift, next, code, follow}
 use Rattle.grid.specs.Both.{mix, firstOf, secondOf, firstPlace, secondPlace, joined, Pair, both}
-use Rattle.grid.proofs.Cut.{clash, and-true}
+use Rattle.grid.proofs.Cut.{and-true}
 use Rattle.grid.proofs.Lists.{take-map, drop-map}
-use Rattle.grid.proofs.Laws.{Laws, Halts, total}
+use Rattle.grid.proofs.Laws.{Laws, total}
 use Rattle.grid.proofs.Places.{first-inside, second-inside, first-length, second-length, first-digit, second-digit}
-use Rattle.grid.proofs.BothLaws.{ones, twos, eachAdds, adds, first-mix, second-mix, length-mix, InBoth, GoodBoth}
+use Rattle.grid.proofs.BothLaws.{ones, twos, adds, first-mix, second-mix, InBoth, GoodBoth}
 use Rattle.space.specs.Weave.{Strand, weave, both-of, parts, placeIn, firsts, seconds, placeOne, placeTwo, together}
 
 -- ---- places
@@ -261,7 +261,7 @@ module _ {part : Strand → List ℕ → List ℕ} {count : Strand → ℕ} {pla
       go ih true q = refl
       go ih false q = let k : count t ≤ p = ltb-false p _ q in ap (λ (i : ℕ). both-of t + i) (ih (omega (arith, k)))
 
--- ---- weaving: fewer levels, longer lists, and characters for digits
+-- ---- weaving characters for digits
 
 mix-map : (f : ℕ → ℕ) (q : Bool) (a b : List ℕ) → map f (mix q a b) ≡ mix q (map f a) (map f b)
 mix-map f false a b = map-append f a b
@@ -275,34 +275,3 @@ weave-map f [] a b = refl
 weave-map f (t ∷ ts) a b =
     map-append f (mix (t .lead) (take (t .one) a) (take (t .two) b)) _
     ∙ rw (mix-map f (t .lead) (take (t .one) a) (take (t .two) b), take-map f (t .one) a, take-map f (t .two) b, drop-map f (t .one) a, drop-map f (t .two) b, weave-map f ts (drop (t .one) a) (drop (t .two) b)) refl
-
--- what stands past what is asked for plays no part
-pub weave-more : (ts : List Strand) (a x b y : List ℕ) → length a ≡ counted (λ t. t .one) ts → length b ≡ counted (λ t. t .two) ts → weave ts (a ++ x) (b ++ y) ≡ weave ts a b
-unfolding weave
-weave-more [] a x b y la lb = refl
-weave-more (t ∷ ts) a x b y la lb =
-    rw (
-      take-append-le (t .one) a x (omega arith),
-      take-append-le (t .two) b y (omega arith),
-      drop-append-le (t .one) a x (omega arith),
-      drop-append-le (t .two) b y (omega arith),
-      weave-more ts (drop (t .one) a) x (drop (t .two) b) y (length-drop (t .one) a ∙ omega arith) (length-drop (t .two) b ∙ omega arith),
-    ) refl
-
--- fewer levels are the beginning
-pub weave-fewer : (l : ℕ) (ts : List Strand) (a b : List ℕ) → counted (λ t. t .one) ts ≤ length a → counted (λ t. t .two) ts ≤ length b
-    → take (counted both-of (take l ts)) (weave ts a b) ≡ weave (take l ts) a b
-unfolding weave
-weave-fewer zero ts a b la lb = refl
-weave-fewer (suc l) [] a b la lb = refl
-weave-fewer (suc l) (t ∷ ts) a b la lb =
-    let m = mix (t .lead) (take (t .one) a) (take (t .two) b) in
-    let x : length (take (t .one) a) ≡ t .one = length-take-le (t .one) a (omega arith) in
-    let y : length (take (t .two) b) ≡ t .two = length-take-le (t .two) b (omega arith) in
-    let n : length m ≡ both-of t = length-mix (t .lead) (take (t .one) a) (take (t .two) b) ∙ omega arith in
-    let r = weave ts (drop (t .one) a) (drop (t .two) b) in
-    let k = counted both-of (take l ts) in
-    let e : both-of t + k ≡ length m + k = omega arith in
-    ap (λ (i : ℕ). take i (m ++ r)) e
-    ∙ take-append-add m r k
-    ∙ ap (λ z. m ++ z) (weave-fewer l ts (drop (t .one) a) (drop (t .two) b) (subst (λ (i : ℕ). counted (λ t. t .one) ts ≤ i) (sym (length-drop (t .one) a)) (omega arith)) (subst (λ (i : ℕ). counted (λ t. t .two) ts ≤ i) (sym (length-drop (t .two) b)) (omega arith)))

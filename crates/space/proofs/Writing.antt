@@ -2,18 +2,17 @@
 -- Assumes nothing.
 use mathlib.Core.Path.{_≡_, refl, sym, _∙_, ap, subst}
 use mathlib.Core.Bool.{Bool, true, false, cond}
-use mathlib.Core.List.{List, [], _∷_, _++_, map}
-use Prim.Native.Nat.{ℕ, _+_, _-_, _≤_, _<_}
-use native.Mathlib.Nat.{zero-add}
+use mathlib.Core.List.{List, map}
+use Prim.Native.Nat.{ℕ, _+_, _-_, _≤_}
 use native.Mathlib.Omega.{arith}
 use lib.Dec.{ltb}
 use lib.IntN.{ℤ}
-use lib.ListN.{length, take, drop, getD, length-map}
-use lib.Seq.{sets, sets-eq, length-sets}
-use borrow.Author.Tests.{ltb-true, lt-ltb, le-ltb}
+use lib.ListN.{length, take, getD, length-map}
+use lib.Seq.{sets, sets-eq, take-at}
+use borrow.Author.Tests.{lt-ltb}
 use Rattle.grid.specs.declared.Place.{Place}
 use Rattle.grid.specs.declared.Refusal.{Refusal}
-use Rattle.grid.specs.Units.{HALF, QUARTER, LAYERS, side, index, Square, Cube, OnGlobe, OnGrid, squareOf}
+use Rattle.grid.specs.Units.{HALF, QUARTER, side, index, Square, Cube, OnGrid, squareOf}
 use Rattle.grid.specs.Characters.{charOf}
 use Rattle.grid.specs.Tree.{code}
 use Rattle.grid.specs.Answers.{refusal}
@@ -21,7 +20,7 @@ use Rattle.grid.specs.Codes.{codeIn}
 use Rattle.grid.specs.Laying.{Text, refuse, text, unless}
 use Rattle.grid.specs.Splits.{splits, splitAt}
 use Rattle.grid.specs.Plane.{globe, plane, planeCodes, codeOf}
-use Rattle.grid.specs.Layers.{radices, product, rise, all, layers}
+use Rattle.grid.specs.Layers.{radices, rise, all, layers}
 use Rattle.grid.specs.Space.{spaceCodes, spaceCodeOf, spaceLengths}
 use Rattle.grid.proofs.Cut.{clash}
 use Rattle.grid.proofs.PlaneLaws.{laws, index-unit}
@@ -29,7 +28,6 @@ use Rattle.grid.proofs.LayerLaws.{layer-laws}
 use Rattle.grid.proofs.Families.{length-codeIn}
 use Rattle.grid.proofs.Theorems.{radices-sound, space-sound}
 use Rattle.layers.specs.Heights.{heightLevels, heightDigits, layerOf, askedOf}
-use Rattle.layers.specs.declared.AskedLayer.{AskedLayer}
 use Rattle.layers.specs.declared.AskedLayer.the-variants as layer-as
 use Rattle.layers.proofs.Radices.{radices-fair}
 use Rattle.layers.proofs.Digits.{height-length}
@@ -38,12 +36,13 @@ use Rattle.plane.specs.declared.Asked.{Asked}
 use Rattle.plane.specs.declared.Asked.the-variants as plane-as
 use Rattle.plane.specs.Text.{levelNumber, planeText, askedText, Fitting, Same}
 use Rattle.plane.proofs.Reading.{code-length, on-globe}
-use Rattle.space.specs.Weave.{Strand, weave}
+use Rattle.space.specs.Weave.{weave, placeOne, placeTwo, spread}
 use Rattle.space.specs.Space.{spaceText, layeredText, askedSpaceText, tenStrands, Fits, FittingSpace}
 use Rattle.space.specs.declared.AskedSpace.{AskedSpace}
 use Rattle.space.specs.declared.AskedSpace.the-variants as space-as
-use Rattle.space.proofs.Weaving.{counted, code-woven, weave-map, weave-more, weave-fewer}
-use Rattle.space.proofs.Parts.{top, levels, plane-levels, height-levels, level-strands, levels-good, root-in, Counted, ten}
+use Rattle.space.proofs.Weaving.{code-woven, weave-map}
+use Rattle.space.proofs.Parts.{top, levels, plane-levels, height-levels, level-strands, levels-good, root-in, ten}
+use Rattle.space.proofs.Spreading.{both-spread}
 
 -- a space code is its plane code and its height characters, woven
 pub code-parts : (l : ℕ) → l ≤ 10 → (s : Cube) → OnGrid s
@@ -53,30 +52,28 @@ code-parts l h s o =
     ap (map charOf) (code-woven plane (layers top) laws (layer-laws top) (take l levels) (globe, all) s (levels-good l h) (root-in s o))
     ∙ rw (plane-levels l, height-levels l, level-strands l) (weave-map charOf (take l tenStrands) (code plane (take l splits) globe (s .0)) (code (layers top) (take l (heightLevels radices)) all (s .1)))
 
--- characters stored from the start of a longer line stand before the rest of it
-stored : (l w : List ℕ) → length w ≤ length l → (x : List ℕ) × (sets l 0 w ≡ w ++ x)
-stored l w h = (drop (0 + length w) l, sets-eq w l 0 (omega arith))
+-- a place and a layer on the grid
+pub on-grid-at : (p : Place) (l n : ℕ) (above : Bool) → Fits l p n → OnGrid (squareOf p, layerOf top above n)
+on-grid-at p l n above f = record { on-globe = on-globe p (f .wide) (f .high); layer-in = layer-in top above n (f .rise-in) }
 
--- the beginning of all that was woven is the space code
-pub built-code : (l : ℕ) (p : Place) (z : ℤ) (fp fh : List ℕ) {flat high : List ℕ} → 1 ≤ l → l ≤ 10 → OnGrid (squareOf p, z)
-    → length fp ≡ 20 → length fh ≡ 12 → flat ≡ sets fp 0 (codeOf l (squareOf p)) → high ≡ sets fh 0 (map charOf (heightDigits radices l z))
-    → take (getD spaceLengths (l - 1) 0) (weave tenStrands flat high) ≡ spaceCodeOf l (squareOf p, z)
-built-code l p z fp fh {flat} {high} a b o lp lh ep eh =
-    let C = ten l a b in
+-- characters stored from the start of a line are its beginning
+take-stored : (l w : List ℕ) {n : ℕ} → length w ≡ n → n ≤ length l → take n (sets l 0 w) ≡ w
+take-stored l w {n} e h = ap (take n) (sets-eq w l 0 (omega arith)) ∙ take-at w _ n e
+
+-- the plane code and the height characters, built apart and stored each at its place, are the space code
+pub put-code : (l : ℕ) (p : Place) (above : Bool) (n : ℕ) (fp fh line : List ℕ) {flat high mid last : List ℕ} → Fits l p n → length fp ≡ 20 → length fh ≡ 12 → getD spaceLengths (l - 1) 0 ≤ length line
+    → flat ≡ sets fp 0 (codeOf l (squareOf p)) → mid ≡ spread (placeOne tenStrands) 0 (take (splitAt (l - 1) .length) flat) line
+    → high ≡ sets fh 0 (map charOf (heightDigits radices l (layerOf top above n))) → last ≡ spread (placeTwo tenStrands) 0 (take (2 + l) high) mid
+    → last ≡ sets line 0 (spaceCodeOf l (squareOf p, layerOf top above n))
+put-code l p above n fp fh line f lp lh room ep em eh el =
+    let o = on-grid-at p l n above f in
+    let C = ten l (f .level-low) (f .level-high) in
     let cp = codeOf l (squareOf p) in
-    let ch = map charOf (heightDigits radices l z) in
-    let np : length cp ≡ splitAt (l - 1) .length = code-length l (squareOf p) (o .on-globe) a b in
-    let nh : length ch ≡ 2 + l = length-map (heightDigits radices l z) charOf ∙ height-length radices l z radices-fair (o .layer-in) a b in
-    let x = stored fp cp (omega (arith, C .few-one)) in
-    let y = stored fh ch (omega (arith, C .few-two)) in
-    let nf : length flat ≡ 20 = ap length ep ∙ length-sets fp 0 cp ∙ lp in
-    let ng : length high ≡ 12 = ap length eh ∙ length-sets fh 0 ch ∙ lh in
-    ap (λ (n : ℕ). take n (weave tenStrands flat high)) (sym (C .all-of))
-    ∙ weave-fewer l tenStrands flat high (subst (λ (n : ℕ). 20 ≤ n) (sym nf) (omega arith)) (subst (λ (n : ℕ). 12 ≤ n) (sym ng) (omega arith))
-    ∙ ap (λ v. weave (take l tenStrands) v high) (ep ∙ x .1)
-    ∙ ap (λ v. weave (take l tenStrands) (cp ++ x .0) v) (eh ∙ y .1)
-    ∙ weave-more (take l tenStrands) cp (x .0) ch (y .0) (np ∙ sym (C .one)) (nh ∙ sym (C .two))
-    ∙ sym (code-parts l b (squareOf p, z) o)
+    let ch = map charOf (heightDigits radices l (layerOf top above n)) in
+    let np : length cp ≡ splitAt (l - 1) .length = code-length l (squareOf p) (o .on-globe) (f .level-low) (f .level-high) in
+    let nh : length ch ≡ 2 + l = length-map (heightDigits radices l (layerOf top above n)) charOf ∙ height-length radices l (layerOf top above n) radices-fair (o .layer-in) (f .level-low) (f .level-high) in
+    rw (el, em, ep, eh, take-stored fp cp np (omega (arith, C .few-one)), take-stored fh ch nh (omega (arith, C .few-two)), code-parts l (f .level-high) (squareOf p, layerOf top above n) o)
+    (both-spread l cp ch line (f .level-low) (f .level-high) np nh room)
 
 -- ---- what was asked for
 
@@ -105,7 +102,7 @@ module _ (level longitude latitude layer : ℤ) where
   space-refused {a} {r} e f = go (ltb 0 (levelNumber level)) (ltb (index longitude) HALF) (ltb (index latitude) QUARTER) (ap askedText (sym e) ∙ f)
     where
       go : (p q t : Bool) → refuse r ≡ unless p 1 (unless q 2 (unless t 3 (text (codeOf (levelNumber level) sq))))
-          → refuse r ≡ unless p 1 (unless q 2 (unless t 3 (unless (ltb (index layer) LAYERS) 4 (text (spaceCodeOf (levelNumber level) (sq, layer))))))
+          → refuse r ≡ unless p 1 (unless q 2 (unless t 3 (layeredText (levelNumber level) sq layer)))
       go true true true e = clash (cc)
       go true true false e = e
       go true false t e = e
@@ -113,7 +110,7 @@ module _ (level longitude latitude layer : ℤ) where
 
   -- where it does not, the layer decides
   pub space-at : {a : Asked} {l : ℕ} {p : Place} → a ≡ plane-as.At l p → Fitting a → Same level longitude latitude a → layeredText l (squareOf p) layer ≡ spaceText level longitude latitude layer
-  unfolding spaceText layeredText
+  unfolding spaceText
   space-at {a} {l} {p} e f g =
       let t = subst Fitting e f in
       let u = subst (Same level longitude latitude) e g in
@@ -136,10 +133,6 @@ asked-space-unmet e f = sym f ∙ ap askedSpaceText e
 
 pub fits-at : {a : AskedSpace} {l : ℕ} {p : Place} {above : Bool} {n : ℕ} → a ≡ space-as.At l p above n → FittingSpace a → Fits l p n
 fits-at e f = subst FittingSpace e f
-
--- a place and a layer on the grid
-pub on-grid-at : (p : Place) (l n : ℕ) (above : Bool) → Fits l p n → OnGrid (squareOf p, layerOf top above n)
-on-grid-at p l n above f = record { on-globe = on-globe p (f .wide) (f .high); layer-in = layer-in top above n (f .rise-in) }
 
 pub space-length : (l : ℕ) (p : Place) (n : ℕ) (above : Bool) → Fits l p n → length (spaceCodeOf l (squareOf p, layerOf top above n)) ≡ getD spaceLengths (l - 1) 0
 unfolding spaceCodeOf spaceCodes radices-sound space-sound

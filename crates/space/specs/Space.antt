@@ -2,11 +2,10 @@
 -- Assumes nothing.
 use mathlib.Core.Bool.{true, false, cond}
 use mathlib.Core.List.{List, [], _∷_, map}
-use mathlib.Core.Option.{Option}
-use Prim.Native.Nat.{ℕ, zero, suc, _≤_, _<_, min}
+use Prim.Native.Nat.{ℕ, zero, suc, _+_, _-_, _*_, _≤_, _<_, min}
 use lib.Dec.{ltb}
 use lib.IntN.{ℤ}
-use lib.ListN.{getD}
+use lib.ListN.{length, getD}
 use Rattle.grid.specs.declared.Split.{Split}
 use Rattle.grid.specs.declared.SpaceCell.{SpaceCell}
 use Rattle.grid.specs.declared.Cell.{Cell}
@@ -29,18 +28,17 @@ use Rattle.space.specs.declared.SpaceRead.{SpaceRead}
 use Rattle.space.specs.declared.SpaceRead.the-variants.{Found, Refused}
 use Rattle.space.specs.Weave.{Strand, placeOne, placeTwo}
 
--- refusals 1, 2, 3 and 4 in that order, else the space code
+-- refusal 4, else the space code of a square and a layer
+unfoldable pub layeredText : ℕ → Square → ℤ → Text
+layeredText l s layer = unless (ltb (index layer) LAYERS) 4 (text (spaceCodeOf l (s, layer)))
+
+-- refusals 1, 2 and 3 in that order, else what the layer decides
 unfoldable pub spaceText : ℤ → ℤ → ℤ → ℤ → Text
 spaceText level longitude latitude layer =
     unless (ltb 0 (levelNumber level)) 1
     (unless (ltb (index longitude) HALF) 2
     (unless (ltb (index latitude) QUARTER) 3
-    (unless (ltb (index layer) LAYERS) 4
-    (text (spaceCodeOf (levelNumber level) (record { longitude = longitude; latitude = latitude }, layer))))))
-
--- refusal 4, else the space code of a square and a layer
-unfoldable pub layeredText : ℕ → Square → ℤ → Text
-layeredText l s layer = unless (ltb (index layer) LAYERS) 4 (text (spaceCodeOf l (s, layer)))
+    (layeredText (levelNumber level) (record { longitude = longitude; latitude = latitude }) layer)))
 
 -- what was asked for, as a text
 abbrev pub askedSpaceText : AskedSpace → Text
@@ -54,6 +52,16 @@ pub record Fits (l : ℕ) (p : Place) (rise : ℕ) : Type 0 where
   pub wide : p .x < HALF
   pub high : p .y < QUARTER
   pub rise-in : rise < product radices
+
+-- the length of the space codes of a level, as a sum: three characters for each level and four more, of which one is spared from level 3 on and one more from level 6 on
+abbrev pub lengthSum : ℕ → ℕ
+lengthSum l = 3 * l + 4 - min 1 (l - 2) - min 1 (l - 5)
+
+-- a level 1 to 10, and a line with room for its space code
+pub record Room (l : ℕ) (line : List ℕ) : Type 0 where
+  pub level-low : 1 ≤ l
+  pub level-high : l ≤ 10
+  pub room : lengthSum l ≤ length line
 
 abbrev pub FittingSpace : AskedSpace → Type 0
 FittingSpace (At l p above rise) = Fits l p rise

@@ -1,10 +1,10 @@
 -- Two lists of digits or characters woven level by level, as a space code is of its plane code and its height characters; and taken apart again.
 -- Assumes nothing.
-use mathlib.Core.Bool.{Bool, true, false, cond}
+use mathlib.Core.Bool.{Bool, cond}
 use mathlib.Core.List.{List, [], _∷_, _++_}
-use Prim.Native.Nat.{ℕ, zero, suc, _+_, _-_, min}
+use Prim.Native.Nat.{ℕ, suc, _+_, _-_, min}
 use lib.Dec.{ltb}
-use lib.ListN.{take, drop}
+use lib.ListN.{take, drop, set}
 use Rattle.grid.specs.Tree.{Read, ok, bad}
 use Rattle.grid.specs.Both.{mix, firstOf, secondOf, firstPlace, secondPlace}
 
@@ -48,6 +48,11 @@ placeOne = placeIn (λ t. t .one) (λ t. firstPlace (t .lead))
 
 abbrev pub placeTwo : List Strand → ℕ → ℕ
 placeTwo = placeIn (λ t. t .two) (λ t. secondPlace (t .lead) (t .one))
+
+-- each digit of a part, from its digit k on, stored at its place in what is woven
+abbrev pub spread : (ℕ → ℕ) → ℕ → List ℕ → List ℕ → List ℕ
+spread place k [] l = l
+spread place k (c ∷ w) l = spread place (suc k) w (set l (place k) c)
 
 -- both were read; or the first bad digit of either, at its place in what was woven
 abbrev pub together : {A B : Type 0} → List Strand → Read A → Read B → Read (A × B)

@@ -17,12 +17,13 @@ ghost use Rattle.grid.specs.Plane.{cellOf};
 ghost use Rattle.grid.specs.Layers.{radices, product, part};
 ghost use Rattle.grid.specs.Tree.{ok, bad};
 ghost use Rattle.layers.specs.Heights.{layersRead, heightRead, layerOf};
-ghost use Rattle.space.specs.Weave.{weave};
+ghost use Rattle.space.specs.Weave.{placeOne, placeTwo, spread};
 ghost use Rattle.space.specs.Space.{
   spaceText,
   layeredText,
   askedSpaceText,
   Fits,
+  Room,
   FittingSpace,
   spaceRead,
   spaceLevelOf,
@@ -103,46 +104,6 @@ fn length_of(level: u32) -> usize
 }
 
 // ---- woven and taken apart
-
-// The characters of a space code of level 10: at each level those of the plane, then that of the height.
-fn woven(p: [u8; 20], h: [u8; 12]) -> [u8; 32]
-    ensures { λ r. ⌜ r ≡ weave tenStrands p h ⌝ }
-{
-    [
-        p[0],
-        h[0],
-        p[1],
-        p[2],
-        p[3],
-        h[1],
-        h[2],
-        p[4],
-        p[5],
-        h[3],
-        p[6],
-        h[4],
-        p[7],
-        p[8],
-        h[5],
-        p[9],
-        p[10],
-        h[6],
-        p[11],
-        h[7],
-        p[12],
-        p[13],
-        h[8],
-        p[14],
-        p[15],
-        h[9],
-        p[16],
-        p[17],
-        h[10],
-        p[18],
-        p[19],
-        h[11],
-    ]
-}
 
 // The byte at a place, 0 past the end.
 fn byte_at(code: &[u8], i: usize) -> u8
@@ -237,22 +198,10 @@ fn height_place(p: usize) -> usize
     if p < 12 { HEIGHT_PLACES[p] as usize } else { 0 }
 }
 
-// The first n characters, from the line's first byte on.
-fn copy_first(w: [u8; 32], n: usize, line: &mut [u8])
-    requires { ⌜ (n ≤ 32) × (n ≤ length (now line)) ⌝ }
-    ensures { λ _. ⌜ now (line .exit) ≡ sets (now (line .entry)) 0 (take n w) ⌝ }
-{
-    let mut i = 0;
-    while i < n {
-        line[i] = w[i];
-        i += 1;
-    }
-}
-
 // ---- writing
 
 // What a space writer is asked for, once refusals 1 to 4 are decided in that order.
-pub enum AskedSpace {
+enum AskedSpace {
     At(u32, Place, bool, u32),
     Unmet(Refusal),
 }
@@ -278,16 +227,117 @@ fn ask(level: i64, longitude: i64, latitude: i64, layer: i64) -> AskedSpace
     }
 }
 
-// The characters of a space code: the plane's and the height's, built apart and woven. Past the code's length they are of no use.
-fn built(l: u32, p: Place, above: bool, rise: u32) -> [u8; 32]
-    requires { ⌜ Fits l p rise ⌝ }
-    ensures { λ r. ⌜ (take (getD spaceLengths (l - 1) 0) r ≡ spaceCodeOf l (squareOf p, layerOf (product radices) above rise)) × (length r ≡ 32) ⌝ }
+// The plane characters of a code of a level, each at its place in the space code.
+fn lay_plane(level: u32, part: &[u8], line: &mut [u8])
+    requires { ⌜ Room level (now line) × (length (now part) ≡ 20) ⌝ }
+    ensures { λ _. ⌜ now (line .exit) ≡ spread (placeOne tenStrands) 0 (take (splitAt (level - 1) .length) (now (part .entry))) (now (line .entry)) ⌝ }
+{
+    line[0] = part[0];
+    line[2] = part[1];
+    line[3] = part[2];
+    line[4] = part[3];
+    if level <= 1 {
+        return;
+    }
+    line[7] = part[4];
+    line[8] = part[5];
+    if level <= 2 {
+        return;
+    }
+    line[10] = part[6];
+    if level <= 3 {
+        return;
+    }
+    line[12] = part[7];
+    line[13] = part[8];
+    if level <= 4 {
+        return;
+    }
+    line[15] = part[9];
+    line[16] = part[10];
+    if level <= 5 {
+        return;
+    }
+    line[18] = part[11];
+    if level <= 6 {
+        return;
+    }
+    line[20] = part[12];
+    line[21] = part[13];
+    if level <= 7 {
+        return;
+    }
+    line[23] = part[14];
+    line[24] = part[15];
+    if level <= 8 {
+        return;
+    }
+    line[26] = part[16];
+    line[27] = part[17];
+    if level <= 9 {
+        return;
+    }
+    line[29] = part[18];
+    line[30] = part[19];
+}
+
+// The height characters of a code of a level, each at its place in the space code.
+fn lay_height(level: u32, part: &[u8], line: &mut [u8])
+    requires { ⌜ Room level (now line) × (length (now part) ≡ 12) ⌝ }
+    ensures { λ _. ⌜ now (line .exit) ≡ spread (placeTwo tenStrands) 0 (take (2 + level) (now (part .entry))) (now (line .entry)) ⌝ }
+{
+    line[1] = part[0];
+    line[5] = part[1];
+    line[6] = part[2];
+    if level <= 1 {
+        return;
+    }
+    line[9] = part[3];
+    if level <= 2 {
+        return;
+    }
+    line[11] = part[4];
+    if level <= 3 {
+        return;
+    }
+    line[14] = part[5];
+    if level <= 4 {
+        return;
+    }
+    line[17] = part[6];
+    if level <= 5 {
+        return;
+    }
+    line[19] = part[7];
+    if level <= 6 {
+        return;
+    }
+    line[22] = part[8];
+    if level <= 7 {
+        return;
+    }
+    line[25] = part[9];
+    if level <= 8 {
+        return;
+    }
+    line[28] = part[10];
+    if level <= 9 {
+        return;
+    }
+    line[31] = part[11];
+}
+
+// Writes the space code from the line's first byte on: the plane characters and the height characters, built apart and laid each at its place.
+fn put(l: u32, p: Place, above: bool, rise: u32, line: &mut [u8])
+    requires { ⌜ Fits l p rise × (getD spaceLengths (l - 1) 0 ≤ length (now line)) ⌝ }
+    ensures { λ _. ⌜ now (line .exit) ≡ sets (now (line .entry)) 0 (spaceCodeOf l (squareOf p, layerOf (product radices) above rise)) ⌝ }
 {
     let mut flat = [0u8; 20];
     plane::put(l, p, &mut flat);
+    lay_plane(l, &flat, line);
     let mut high = [0u8; 12];
     layers::put(l, above, rise, &mut high);
-    woven(flat, high)
+    lay_height(l, &high, line);
 }
 
 // Lays the space code into the line from `at` on, if there is room: refusal 5, else the number of bytes.
@@ -302,8 +352,7 @@ fn lay(l: u32, p: Place, above: bool, rise: u32, line: &mut [u8], at: usize) -> 
     if line.len() - at < n {
         return Written::Refused(plane::refuse(5));
     }
-    let w = built(l, p, above, rise);
-    copy_first(w, n, &mut line[at..]);
+    put(l, p, above, rise, &mut line[at..]);
     Written::Bytes(n)
 }
 

@@ -1,11 +1,7 @@
 -- `space::ask` meets its contract. Assumes nothing.
-use mathlib.Core.Path.{_≡_, sym, _∙_, ap, subst}
+use mathlib.Core.Path.{_∙_}
 use mir.Facts.{toZ-ofZ}
-use lib.IntN.{ℤ}
-use Rattle.grid.specs.Units.{squareOf}
-use Rattle.plane.specs.Text.{askedText, planeText, Fitting, Same}
 use Rattle.plane.proofs.Asking.{fitting-at}
-use Rattle.space.specs.Space.{askedSpaceText, layeredText}
 use Rattle.space.proofs.Writing.{space-refused, space-at}
 use borrow.Author.Needs.{needs}
 use Rattle.space.proofs.ask.Statement.{statement}

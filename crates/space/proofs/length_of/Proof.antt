@@ -1,8 +1,7 @@
 -- `space::length_of` meets its contract. Assumes nothing.
-use mathlib.Core.Path.{_≡_, _∙_, ap}
-use Prim.Native.Nat.{ℕ, _+_, _-_, _≤_}
+use mathlib.Core.Path.{_∙_, ap}
+use Prim.Native.Nat.{ℕ, _+_}
 use native.Mathlib.Omega.{arith}
-use Rattle.grid.specs.Splits.{splitAt}
 use Rattle.space.proofs.Tables.{length-at, length-few}
 use borrow.Author.Needs.{needs}
 use Rattle.space.proofs.length_of.Statement.{statement}

@@ -1,7 +1,6 @@
 -- `space::over` meets its contract. Assumes nothing.
-use mathlib.Core.Path.{_≡_, sym, _∙_, ap, subst}
+use mathlib.Core.Path.{sym, _∙_, ap}
 use mir.Facts.{toZ-ofZ}
-use lib.IntN.{ℤ}
 use Rattle.grid.specs.Units.{squareOf}
 use Rattle.grid.specs.Layers.{radices}
 use Rattle.grid.specs.Laying as laying
