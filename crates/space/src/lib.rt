@@ -103,7 +103,7 @@ fn length_of(level: u32) -> usize
     plane::length_of(level) + 2 + level as usize
 }
 
-// ---- woven and taken apart
+// ---- taken apart
 
 // The byte at a place, 0 past the end.
 fn byte_at(code: &[u8], i: usize) -> u8
