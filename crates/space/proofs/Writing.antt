@@ -45,7 +45,7 @@ use Rattle.space.proofs.Parts.{top, levels, plane-levels, height-levels
 use Rattle.space.proofs.Spreading.{both-spread}
 
 -- a space code is its plane code and its height characters, woven
-pub code-parts : (l : ℕ) → l ≤ 10 → (s : Cube) → OnGrid s
+code-parts : (l : ℕ) → l ≤ 10 → (s : Cube) → OnGrid s
     → spaceCodeOf l s ≡ weave (take l tenStrands) (codeOf l (s .0)) (map charOf (heightDigits radices l (s .1)))
 unfolding spaceCodeOf codeOf codeIn spaceCodes planeCodes heightDigits
 code-parts l h s o =
@@ -53,7 +53,7 @@ code-parts l h s o =
     ∙ rw (plane-levels l, height-levels l, level-strands l) (weave-map charOf (take l tenStrands) (code plane (take l splits) globe (s .0)) (code (layers top) (take l (heightLevels radices)) all (s .1)))
 
 -- a place and a layer on the grid
-pub on-grid-at : (p : Place) (l n : ℕ) (above : Bool) → Fits l p n → OnGrid (squareOf p, layerOf top above n)
+on-grid-at : (p : Place) (l n : ℕ) (above : Bool) → Fits l p n → OnGrid (squareOf p, layerOf top above n)
 on-grid-at p l n above f = record { on-globe = on-globe p (f .wide) (f .high); layer-in = layer-in top above n (f .rise-in) }
 
 -- characters stored from the start of a line are its beginning
