@@ -14,7 +14,7 @@ use Rattle.grid.proofs.Cut.{Entry, tabled, below}
 use Rattle.grid.proofs.Lengths.{no-place}
 use Rattle.plane.specs.Text.{orZero}
 use Rattle.space.specs.Weave.{placeIn}
-use Rattle.space.specs.Space.{spaceLevelOf, countFrom, planePlace, heightPlace, lengthSum, Room}
+use Rattle.space.specs.Space.{spaceLevelOf, countFrom, planePlace, heightPlace}
 
 -- ---- levels and lengths
 
@@ -38,13 +38,6 @@ length-at (suc l) a b = eqb-true _ _ (below (λ l. eqb (splitAt (suc l - 1) .len
 pub length-few : (l : ℕ) → 1 ≤ l → l ≤ 10 → splitAt (l - 1) .length ≤ 20
 length-few zero a b = absurd (omega arith)
 length-few (suc l) a b = leb-true _ 20 (below (λ l. leb (splitAt (suc l - 1) .length) 20) 10 l refl (omega arith))
-
--- a line with room for a space code
-pub room-in : (l : ℕ) (line : List ℕ) → 1 ≤ l → l ≤ 10 → getD spaceLengths (l - 1) 0 ≤ length line → Room l line
-room-in zero line a b h = absurd (omega arith)
-room-in (suc l) line a b h =
-    let e : lengthSum (suc l) ≡ getD spaceLengths (suc l - 1) 0 = eqb-true _ _ (below (λ l. eqb (lengthSum (suc l)) (getD spaceLengths (suc l - 1) 0)) 10 l refl (omega arith)) in
-    record { level-low = a; level-high = b; room = omega arith }
 
 -- ---- places
 

@@ -53,15 +53,11 @@ pub record Fits (l : ℕ) (p : Place) (rise : ℕ) : Type 0 where
   pub high : p .y < QUARTER
   pub rise-in : rise < product radices
 
--- the length of the space codes of a level, as a sum: three characters for each level and four more, of which one is spared from level 3 on and one more from level 6 on
-abbrev pub lengthSum : ℕ → ℕ
-lengthSum l = 3 * l + 4 - min 1 (l - 2) - min 1 (l - 5)
-
 -- a level 1 to 10, and a line with room for its space code
 pub record Room (l : ℕ) (line : List ℕ) : Type 0 where
   pub level-low : 1 ≤ l
   pub level-high : l ≤ 10
-  pub room : lengthSum l ≤ length line
+  pub room : getD spaceLengths (l - 1) 0 ≤ length line
 
 abbrev pub FittingSpace : AskedSpace → Type 0
 FittingSpace (At l p above rise) = Fits l p rise

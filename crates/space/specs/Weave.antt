@@ -54,6 +54,10 @@ abbrev pub spread : (ℕ → ℕ) → ℕ → List ℕ → List ℕ → List ℕ
 spread place k [] l = l
 spread place k (c ∷ w) l = spread place (suc k) w (set l (place k) c)
 
+-- a digit stored at a place, if there is one
+abbrev pub stored : Bool → ℕ → ℕ → List ℕ → List ℕ
+stored some at c l = cond some (set l at c) l
+
 -- both were read; or the first bad digit of either, at its place in what was woven
 abbrev pub together : {A B : Type 0} → List Strand → Read A → Read B → Read (A × B)
 together ts (ok a) (ok b) = ok (a, b)

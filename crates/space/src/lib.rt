@@ -17,7 +17,8 @@ ghost use Rattle.grid.specs.Plane.{cellOf};
 ghost use Rattle.grid.specs.Layers.{radices, product, part};
 ghost use Rattle.grid.specs.Tree.{ok, bad};
 ghost use Rattle.layers.specs.Heights.{layersRead, heightRead, layerOf};
-ghost use Rattle.space.specs.Weave.{placeOne, placeTwo, spread};
+ghost use Rattle.space.specs.Weave.{placeOne, placeTwo, spread, stored};
+ghost use lib.Dec.{ltb};
 ghost use Rattle.space.specs.Space.{
   spaceText,
   layeredText,
@@ -227,58 +228,46 @@ fn ask(level: i64, longitude: i64, latitude: i64, layer: i64) -> AskedSpace
     }
 }
 
+// The character i of a part at a place in the line, in a code that goes past level k; in another, nothing.
+fn one(level: u32, k: u32, part: &[u8], i: usize, line: &mut [u8], at: usize)
+    requires { ⌜ (i < length (now part)) × (k < level → at < length (now line)) ⌝ }
+    ensures { λ _. ⌜ now (line .exit) ≡ stored (ltb k level) at (getD (now (part .entry)) i 0) (now (line .entry)) ⌝ }
+{
+    if level <= k {
+        return;
+    }
+    line[at] = part[i];
+}
+
+// That character and the next, side by side.
+fn two(level: u32, k: u32, part: &[u8], i: usize, line: &mut [u8], at: usize)
+    requires { ⌜ (i + 1 < length (now part)) × (k < level → at + 1 < length (now line)) ⌝ }
+    ensures { λ _. ⌜ now (line .exit) ≡ stored (ltb k level) (at + 1) (getD (now (part .entry)) (i + 1) 0) (stored (ltb k level) at (getD (now (part .entry)) i 0) (now (line .entry))) ⌝ }
+{
+    if level <= k {
+        return;
+    }
+    line[at] = part[i];
+    line[at + 1] = part[i + 1];
+}
+
 // The plane characters of a code of a level, each at its place in the space code.
 fn lay_plane(level: u32, part: &[u8], line: &mut [u8])
     requires { ⌜ Room level (now line) × (length (now part) ≡ 20) ⌝ }
     ensures { λ _. ⌜ now (line .exit) ≡ spread (placeOne tenStrands) 0 (take (splitAt (level - 1) .length) (now (part .entry))) (now (line .entry)) ⌝ }
 {
-    line[0] = part[0];
-    line[2] = part[1];
-    line[3] = part[2];
-    line[4] = part[3];
-    if level <= 1 {
-        return;
-    }
-    line[7] = part[4];
-    line[8] = part[5];
-    if level <= 2 {
-        return;
-    }
-    line[10] = part[6];
-    if level <= 3 {
-        return;
-    }
-    line[12] = part[7];
-    line[13] = part[8];
-    if level <= 4 {
-        return;
-    }
-    line[15] = part[9];
-    line[16] = part[10];
-    if level <= 5 {
-        return;
-    }
-    line[18] = part[11];
-    if level <= 6 {
-        return;
-    }
-    line[20] = part[12];
-    line[21] = part[13];
-    if level <= 7 {
-        return;
-    }
-    line[23] = part[14];
-    line[24] = part[15];
-    if level <= 8 {
-        return;
-    }
-    line[26] = part[16];
-    line[27] = part[17];
-    if level <= 9 {
-        return;
-    }
-    line[29] = part[18];
-    line[30] = part[19];
+    one(level, 0, part, 0, line, 0);
+    one(level, 0, part, 1, line, 2);
+    two(level, 0, part, 2, line, 3);
+    two(level, 1, part, 4, line, 7);
+    one(level, 2, part, 6, line, 10);
+    two(level, 3, part, 7, line, 12);
+    two(level, 4, part, 9, line, 15);
+    one(level, 5, part, 11, line, 18);
+    two(level, 6, part, 12, line, 20);
+    two(level, 7, part, 14, line, 23);
+    two(level, 8, part, 16, line, 26);
+    two(level, 9, part, 18, line, 29);
 }
 
 // The height characters of a code of a level, each at its place in the space code.
@@ -286,45 +275,17 @@ fn lay_height(level: u32, part: &[u8], line: &mut [u8])
     requires { ⌜ Room level (now line) × (length (now part) ≡ 12) ⌝ }
     ensures { λ _. ⌜ now (line .exit) ≡ spread (placeTwo tenStrands) 0 (take (2 + level) (now (part .entry))) (now (line .entry)) ⌝ }
 {
-    line[1] = part[0];
-    line[5] = part[1];
-    line[6] = part[2];
-    if level <= 1 {
-        return;
-    }
-    line[9] = part[3];
-    if level <= 2 {
-        return;
-    }
-    line[11] = part[4];
-    if level <= 3 {
-        return;
-    }
-    line[14] = part[5];
-    if level <= 4 {
-        return;
-    }
-    line[17] = part[6];
-    if level <= 5 {
-        return;
-    }
-    line[19] = part[7];
-    if level <= 6 {
-        return;
-    }
-    line[22] = part[8];
-    if level <= 7 {
-        return;
-    }
-    line[25] = part[9];
-    if level <= 8 {
-        return;
-    }
-    line[28] = part[10];
-    if level <= 9 {
-        return;
-    }
-    line[31] = part[11];
+    one(level, 0, part, 0, line, 1);
+    two(level, 0, part, 1, line, 5);
+    one(level, 1, part, 3, line, 9);
+    one(level, 2, part, 4, line, 11);
+    one(level, 3, part, 5, line, 14);
+    one(level, 4, part, 6, line, 17);
+    one(level, 5, part, 7, line, 19);
+    one(level, 6, part, 8, line, 22);
+    one(level, 7, part, 9, line, 25);
+    one(level, 8, part, 10, line, 28);
+    one(level, 9, part, 11, line, 31);
 }
 
 // Writes the space code from the line's first byte on: the plane characters and the height characters, built apart and laid each at its place.

@@ -1,99 +1,176 @@
--- `space::lay_plane` meets its contract. Assumes nothing.
-use mathlib.Core.Path.{_∙_, ap}
-use Prim.Native.Nat.{_-_}
-use native.Mathlib.Omega.{arith}
-use lib.ListN.{length, length-set}
+-- `space::lay_plane` meets its contract: each call lays its characters. Assumes nothing.
+use mathlib.Core.Path.{refl}
+use mathlib.Core.List.{List}
+use Prim.Native.Nat.{ℕ, _-_}
 use Rattle.grid.specs.Splits.{splitAt}
 use Rattle.space.specs.Weave.{placeIn, placeOne}
 use Rattle.space.specs.Space.{tenStrands}
-use Rattle.space.proofs.Spreading.{spread-at, spread-length}
-use borrow.Author.Needs.{needs}
+use Rattle.space.proofs.Tables.{length-few}
+use Rattle.space.proofs.Spreading.{Upto, upto-none, upto-one, upto-two, upto-length, upto-all, within, room-at}
 use Rattle.space.proofs.lay_plane.Statement.{statement}
 use Rattle.space.proofs.lay_plane.Tie as tie
 
--- At each level: where the code ends, the part's characters stand at their places (`returns`); each is read in the part and stored in the line, which stays as long as it is.
+-- how many of these characters a level has
+abbrev many : ℕ → ℕ
+many l = splitAt (l - 1) .length
+
+-- the line has so many of them
+abbrev Stage : tie.Start → ℕ → List ℕ → Type 0
+Stage s j l = Upto (placeOne tenStrands) many (s .args .part .now) (s .args .line .now) (s .args .level) j l
+
+stage-1 : (c : tie.After-one) → Stage (c .before .before .before .before) 1 (c .one .last .1 .1 .1 .1 .0)
+unfolding placeIn
+stage-1 c =
+    let s = c .before .before .before .before in
+    upto-one (placeOne tenStrands) many _ _ _ (s .pre .0) (s .pre .1) 0 0 refl refl (upto-none (placeOne tenStrands) many _ _ _) (c .one .ensures)
+
+stage-2 : (c : tie.After-one2) → Stage (c .before .before .before .before .before .before .before .before) 2 (c .one2 .last .1 .1 .1 .1 .0)
+unfolding placeIn
+stage-2 c =
+    let s = c .before .before .before .before .before .before .before .before in
+    upto-one (placeOne tenStrands) many _ _ _ (s .pre .0) (s .pre .1) 0 1 refl refl (stage-1 (c .before .before .before .before)) (c .one2 .ensures)
+
+stage-3 : (c : tie.After-two) → Stage (c .before .before .before .before .before .before .before .before .before .before .before .before) 4 (c .two .last .1 .1 .1 .1 .0)
+unfolding placeIn
+stage-3 c =
+    let s = c .before .before .before .before .before .before .before .before .before .before .before .before in
+    upto-two (placeOne tenStrands) many _ _ _ (s .pre .0) (s .pre .1) 0 2 refl refl refl (stage-2 (c .before .before .before .before)) (c .two .ensures)
+
+stage-4 : (c : tie.After-two2) → Stage (c .before .before .before .before .before .before .before .before .before .before .before .before .before .before .before .before) 6 (c .two2 .last .1 .1 .1 .1 .0)
+unfolding placeIn
+stage-4 c =
+    let s = c .before .before .before .before .before .before .before .before .before .before .before .before .before .before .before .before in
+    upto-two (placeOne tenStrands) many _ _ _ (s .pre .0) (s .pre .1) 1 4 refl refl refl (stage-3 (c .before .before .before .before)) (c .two2 .ensures)
+
+stage-5 : (c : tie.After-one3) → Stage (c .before .before .before .before .before .before .before .before .before .before .before .before .before .before .before .before .before .before .before .before) 7 (c .one3 .last .1 .1 .1 .1 .0)
+unfolding placeIn
+stage-5 c =
+    let s = c .before .before .before .before .before .before .before .before .before .before .before .before .before .before .before .before .before .before .before .before in
+    upto-one (placeOne tenStrands) many _ _ _ (s .pre .0) (s .pre .1) 2 6 refl refl (stage-4 (c .before .before .before .before)) (c .one3 .ensures)
+
+stage-6 : (c : tie.After-two3) → Stage (c .before .before .before .before .before .before .before .before .before .before .before .before .before .before .before .before .before .before .before .before .before .before .before .before) 9 (c .two3 .last .1 .1 .1 .1 .0)
+unfolding placeIn
+stage-6 c =
+    let s = c .before .before .before .before .before .before .before .before .before .before .before .before .before .before .before .before .before .before .before .before .before .before .before .before in
+    upto-two (placeOne tenStrands) many _ _ _ (s .pre .0) (s .pre .1) 3 7 refl refl refl (stage-5 (c .before .before .before .before)) (c .two3 .ensures)
+
+stage-7 : (c : tie.After-two4) → Stage (c .before .before .before .before .before .before .before .before .before .before .before .before .before .before .before .before .before .before .before .before .before .before .before .before .before .before .before .before) 11 (c .two4 .last .1 .1 .1 .1 .0)
+unfolding placeIn
+stage-7 c =
+    let s = c .before .before .before .before .before .before .before .before .before .before .before .before .before .before .before .before .before .before .before .before .before .before .before .before .before .before .before .before in
+    upto-two (placeOne tenStrands) many _ _ _ (s .pre .0) (s .pre .1) 4 9 refl refl refl (stage-6 (c .before .before .before .before)) (c .two4 .ensures)
+
+stage-8 : (c : tie.After-one4) → Stage (c .before .before .before .before .before .before .before .before .before .before .before .before .before .before .before .before .before .before .before .before .before .before .before .before .before .before .before .before .before .before .before .before) 12 (c .one4 .last .1 .1 .1 .1 .0)
+unfolding placeIn
+stage-8 c =
+    let s = c .before .before .before .before .before .before .before .before .before .before .before .before .before .before .before .before .before .before .before .before .before .before .before .before .before .before .before .before .before .before .before .before in
+    upto-one (placeOne tenStrands) many _ _ _ (s .pre .0) (s .pre .1) 5 11 refl refl (stage-7 (c .before .before .before .before)) (c .one4 .ensures)
+
+stage-9 : (c : tie.After-two5) → Stage (c .before .before .before .before .before .before .before .before .before .before .before .before .before .before .before .before .before .before .before .before .before .before .before .before .before .before .before .before .before .before .before .before .before .before .before .before) 14 (c .two5 .last .1 .1 .1 .1 .0)
+unfolding placeIn
+stage-9 c =
+    let s = c .before .before .before .before .before .before .before .before .before .before .before .before .before .before .before .before .before .before .before .before .before .before .before .before .before .before .before .before .before .before .before .before .before .before .before .before in
+    upto-two (placeOne tenStrands) many _ _ _ (s .pre .0) (s .pre .1) 6 12 refl refl refl (stage-8 (c .before .before .before .before)) (c .two5 .ensures)
+
+stage-10 : (c : tie.After-two6) → Stage (c .before .before .before .before .before .before .before .before .before .before .before .before .before .before .before .before .before .before .before .before .before .before .before .before .before .before .before .before .before .before .before .before .before .before .before .before .before .before .before .before) 16 (c .two6 .last .1 .1 .1 .1 .0)
+unfolding placeIn
+stage-10 c =
+    let s = c .before .before .before .before .before .before .before .before .before .before .before .before .before .before .before .before .before .before .before .before .before .before .before .before .before .before .before .before .before .before .before .before .before .before .before .before .before .before .before .before in
+    upto-two (placeOne tenStrands) many _ _ _ (s .pre .0) (s .pre .1) 7 14 refl refl refl (stage-9 (c .before .before .before .before)) (c .two6 .ensures)
+
+stage-11 : (c : tie.After-two7) → Stage (c .before .before .before .before .before .before .before .before .before .before .before .before .before .before .before .before .before .before .before .before .before .before .before .before .before .before .before .before .before .before .before .before .before .before .before .before .before .before .before .before .before .before .before .before) 18 (c .two7 .last .1 .1 .1 .1 .0)
+unfolding placeIn
+stage-11 c =
+    let s = c .before .before .before .before .before .before .before .before .before .before .before .before .before .before .before .before .before .before .before .before .before .before .before .before .before .before .before .before .before .before .before .before .before .before .before .before .before .before .before .before .before .before .before .before in
+    upto-two (placeOne tenStrands) many _ _ _ (s .pre .0) (s .pre .1) 8 16 refl refl refl (stage-10 (c .before .before .before .before)) (c .two7 .ensures)
+
+stage-12 : (c : tie.After-two8) → Stage (c .before .before .before .before .before .before .before .before .before .before .before .before .before .before .before .before .before .before .before .before .before .before .before .before .before .before .before .before .before .before .before .before .before .before .before .before .before .before .before .before .before .before .before .before .before .before .before .before) 20 (c .two8 .last .1 .1 .1 .1 .0)
+unfolding placeIn
+stage-12 c =
+    let s = c .before .before .before .before .before .before .before .before .before .before .before .before .before .before .before .before .before .before .before .before .before .before .before .before .before .before .before .before .before .before .before .before .before .before .before .before .before .before .before .before .before .before .before .before .before .before .before .before in
+    upto-two (placeOne tenStrands) many _ _ _ (s .pre .0) (s .pre .1) 9 18 refl refl refl (stage-11 (c .before .before .before .before)) (c .two8 .ensures)
+
+one-requires : tie.Need-one-requires
+one-requires c κs =
+    let s = c .before .before .before in
+    (within 0 (s .pre .1) refl, room-at (placeOne tenStrands) many _ _ _ (s .pre .0) (s .pre .1) 0 0 refl (upto-none (placeOne tenStrands) many (s .args .part .now) _ _))
+
+one-requires-2 : tie.Need-one-requires-2
+one-requires-2 c κs =
+    let s = c .before .before .before .before .before .before .before in
+    (within 1 (s .pre .1) refl, room-at (placeOne tenStrands) many _ _ _ (s .pre .0) (s .pre .1) 0 2 refl (stage-1 (c .before .before .before)))
+
+two-requires : tie.Need-two-requires
+two-requires c κs =
+    let s = c .before .before .before .before .before .before .before .before .before .before .before in
+    (within 3 (s .pre .1) refl, room-at (placeOne tenStrands) many _ _ _ (s .pre .0) (s .pre .1) 0 4 refl (stage-2 (c .before .before .before)))
+
+two-requires-2 : tie.Need-two-requires-2
+two-requires-2 c κs =
+    let s = c .before .before .before .before .before .before .before .before .before .before .before .before .before .before .before in
+    (within 5 (s .pre .1) refl, room-at (placeOne tenStrands) many _ _ _ (s .pre .0) (s .pre .1) 1 8 refl (stage-3 (c .before .before .before)))
+
+one-requires-3 : tie.Need-one-requires-3
+one-requires-3 c κs =
+    let s = c .before .before .before .before .before .before .before .before .before .before .before .before .before .before .before .before .before .before .before in
+    (within 6 (s .pre .1) refl, room-at (placeOne tenStrands) many _ _ _ (s .pre .0) (s .pre .1) 2 10 refl (stage-4 (c .before .before .before)))
+
+two-requires-3 : tie.Need-two-requires-3
+two-requires-3 c κs =
+    let s = c .before .before .before .before .before .before .before .before .before .before .before .before .before .before .before .before .before .before .before .before .before .before .before in
+    (within 8 (s .pre .1) refl, room-at (placeOne tenStrands) many _ _ _ (s .pre .0) (s .pre .1) 3 13 refl (stage-5 (c .before .before .before)))
+
+two-requires-4 : tie.Need-two-requires-4
+two-requires-4 c κs =
+    let s = c .before .before .before .before .before .before .before .before .before .before .before .before .before .before .before .before .before .before .before .before .before .before .before .before .before .before .before in
+    (within 10 (s .pre .1) refl, room-at (placeOne tenStrands) many _ _ _ (s .pre .0) (s .pre .1) 4 16 refl (stage-6 (c .before .before .before)))
+
+one-requires-4 : tie.Need-one-requires-4
+one-requires-4 c κs =
+    let s = c .before .before .before .before .before .before .before .before .before .before .before .before .before .before .before .before .before .before .before .before .before .before .before .before .before .before .before .before .before .before .before in
+    (within 11 (s .pre .1) refl, room-at (placeOne tenStrands) many _ _ _ (s .pre .0) (s .pre .1) 5 18 refl (stage-7 (c .before .before .before)))
+
+two-requires-5 : tie.Need-two-requires-5
+two-requires-5 c κs =
+    let s = c .before .before .before .before .before .before .before .before .before .before .before .before .before .before .before .before .before .before .before .before .before .before .before .before .before .before .before .before .before .before .before .before .before .before .before in
+    (within 13 (s .pre .1) refl, room-at (placeOne tenStrands) many _ _ _ (s .pre .0) (s .pre .1) 6 21 refl (stage-8 (c .before .before .before)))
+
+two-requires-6 : tie.Need-two-requires-6
+two-requires-6 c κs =
+    let s = c .before .before .before .before .before .before .before .before .before .before .before .before .before .before .before .before .before .before .before .before .before .before .before .before .before .before .before .before .before .before .before .before .before .before .before .before .before .before .before in
+    (within 15 (s .pre .1) refl, room-at (placeOne tenStrands) many _ _ _ (s .pre .0) (s .pre .1) 7 24 refl (stage-9 (c .before .before .before)))
+
+two-requires-7 : tie.Need-two-requires-7
+two-requires-7 c κs =
+    let s = c .before .before .before .before .before .before .before .before .before .before .before .before .before .before .before .before .before .before .before .before .before .before .before .before .before .before .before .before .before .before .before .before .before .before .before .before .before .before .before .before .before .before .before in
+    (within 17 (s .pre .1) refl, room-at (placeOne tenStrands) many _ _ _ (s .pre .0) (s .pre .1) 8 27 refl (stage-10 (c .before .before .before)))
+
+two-requires-8 : tie.Need-two-requires-8
+two-requires-8 c κs =
+    let s = c .before .before .before .before .before .before .before .before .before .before .before .before .before .before .before .before .before .before .before .before .before .before .before .before .before .before .before .before .before .before .before .before .before .before .before .before .before .before .before .before .before .before .before .before .before .before .before in
+    (within 19 (s .pre .1) refl, room-at (placeOne tenStrands) many _ _ _ (s .pre .0) (s .pre .1) 9 30 refl (stage-11 (c .before .before .before)))
+
+same-length : tie.Need-same-length
+same-length c = upto-length (placeOne tenStrands) many _ _ _ (stage-12 (c .before .before))
 
 returns : tie.Need-returns
-unfolding placeIn
-returns c = spread-at (placeOne tenStrands) (λ l. splitAt (l - 1) .length) 1 _ _ (c .if1 .taken) (c .before .before .before .before .before .pre .0 .level-low) (omega arith)
-
-level-1 : tie.Need-shared-slice-read-line × tie.Need-slice-write-line × tie.Need-shared-slice-read-line-2 × tie.Need-slice-write-line-2 × tie.Need-shared-slice-read-line-3 × tie.Need-slice-write-line-3 × tie.Need-shared-slice-read-line-4 × tie.Need-slice-write-line-4 × tie.Need-same-length
-level-1 = (λ c. search needs, λ c. search needs, λ c. search needs, λ c. simp length-set (omega arith), λ c. search needs, λ c. simp length-set (omega arith), λ c. search needs, λ c. simp length-set (omega arith), λ c. ap length (returns c) ∙ simp spread-length)
-
-returns-2 : tie.Need-returns-2
-unfolding placeIn
-returns-2 c = spread-at (placeOne tenStrands) (λ l. splitAt (l - 1) .length) 2 _ _ (c .if2 .taken) (c .before .before .before .if1 .left) (omega arith)
-
-level-2 : tie.Need-shared-slice-read-line-5 × tie.Need-slice-write-line-5 × tie.Need-shared-slice-read-line-6 × tie.Need-slice-write-line-6 × tie.Need-same-length-2
-level-2 = (λ c. search needs, λ c. simp length-set (omega arith), λ c. search needs, λ c. simp length-set (omega arith), λ c. ap length (returns-2 c) ∙ simp spread-length)
-
-returns-3 : tie.Need-returns-3
-unfolding placeIn
-returns-3 c = spread-at (placeOne tenStrands) (λ l. splitAt (l - 1) .length) 3 _ _ (c .if3 .taken) (c .before .before .if2 .left) (omega arith)
-
-level-3 : tie.Need-shared-slice-read-line-7 × tie.Need-slice-write-line-7 × tie.Need-same-length-3
-level-3 = (λ c. search needs, λ c. simp length-set (omega arith), λ c. ap length (returns-3 c) ∙ simp spread-length)
-
-returns-4 : tie.Need-returns-4
-unfolding placeIn
-returns-4 c = spread-at (placeOne tenStrands) (λ l. splitAt (l - 1) .length) 4 _ _ (c .if4 .taken) (c .before .before .before .if3 .left) (omega arith)
-
-level-4 : tie.Need-shared-slice-read-line-8 × tie.Need-slice-write-line-8 × tie.Need-shared-slice-read-line-9 × tie.Need-slice-write-line-9 × tie.Need-same-length-4
-level-4 = (λ c. search needs, λ c. simp length-set (omega arith), λ c. search needs, λ c. simp length-set (omega arith), λ c. ap length (returns-4 c) ∙ simp spread-length)
-
-returns-5 : tie.Need-returns-5
-unfolding placeIn
-returns-5 c = spread-at (placeOne tenStrands) (λ l. splitAt (l - 1) .length) 5 _ _ (c .if5 .taken) (c .before .before .before .if4 .left) (omega arith)
-
-level-5 : tie.Need-shared-slice-read-line-10 × tie.Need-slice-write-line-10 × tie.Need-shared-slice-read-line-11 × tie.Need-slice-write-line-11 × tie.Need-same-length-5
-level-5 = (λ c. search needs, λ c. simp length-set (omega arith), λ c. search needs, λ c. simp length-set (omega arith), λ c. ap length (returns-5 c) ∙ simp spread-length)
-
-returns-6 : tie.Need-returns-6
-unfolding placeIn
-returns-6 c = spread-at (placeOne tenStrands) (λ l. splitAt (l - 1) .length) 6 _ _ (c .if6 .taken) (c .before .before .if5 .left) (omega arith)
-
-level-6 : tie.Need-shared-slice-read-line-12 × tie.Need-slice-write-line-12 × tie.Need-same-length-6
-level-6 = (λ c. search needs, λ c. simp length-set (omega arith), λ c. ap length (returns-6 c) ∙ simp spread-length)
-
-returns-7 : tie.Need-returns-7
-unfolding placeIn
-returns-7 c = spread-at (placeOne tenStrands) (λ l. splitAt (l - 1) .length) 7 _ _ (c .if7 .taken) (c .before .before .before .if6 .left) (omega arith)
-
-level-7 : tie.Need-shared-slice-read-line-13 × tie.Need-slice-write-line-13 × tie.Need-shared-slice-read-line-14 × tie.Need-slice-write-line-14 × tie.Need-same-length-7
-level-7 = (λ c. search needs, λ c. simp length-set (omega arith), λ c. search needs, λ c. simp length-set (omega arith), λ c. ap length (returns-7 c) ∙ simp spread-length)
-
-returns-8 : tie.Need-returns-8
-unfolding placeIn
-returns-8 c = spread-at (placeOne tenStrands) (λ l. splitAt (l - 1) .length) 8 _ _ (c .if8 .taken) (c .before .before .before .if7 .left) (omega arith)
-
-level-8 : tie.Need-shared-slice-read-line-15 × tie.Need-slice-write-line-15 × tie.Need-shared-slice-read-line-16 × tie.Need-slice-write-line-16 × tie.Need-same-length-8
-level-8 = (λ c. search needs, λ c. simp length-set (omega arith), λ c. search needs, λ c. simp length-set (omega arith), λ c. ap length (returns-8 c) ∙ simp spread-length)
-
-returns-9 : tie.Need-returns-9
-unfolding placeIn
-returns-9 c = spread-at (placeOne tenStrands) (λ l. splitAt (l - 1) .length) 9 _ _ (c .if9 .taken) (c .before .before .before .if8 .left) (omega arith)
-
-level-9 : tie.Need-shared-slice-read-line-17 × tie.Need-slice-write-line-17 × tie.Need-shared-slice-read-line-18 × tie.Need-slice-write-line-18 × tie.Need-same-length-9
-level-9 = (λ c. search needs, λ c. simp length-set (omega arith), λ c. search needs, λ c. simp length-set (omega arith), λ c. ap length (returns-9 c) ∙ simp spread-length)
-
-returns-10 : tie.Need-returns-10
-unfolding placeIn
-returns-10 c = spread-at (placeOne tenStrands) (λ l. splitAt (l - 1) .length) 10 _ _ (c .before .before .before .before .before .before .before .before .before .before .before .before .before .before .before .before .before .before .before .before .before .before .before .before .before .before .before .before .before .pre .0 .level-high) (c .before .before .if9 .left) (omega arith)
-
-level-10 : tie.Need-shared-slice-read-line-19 × tie.Need-slice-write-line-19 × tie.Need-shared-slice-read-line-20 × tie.Need-slice-write-line-20 × tie.Need-same-length-10
-level-10 = (λ c. search needs, λ c. simp length-set (omega arith), λ c. search needs, λ c. simp length-set (omega arith), λ c. ap length (returns-10 c) ∙ simp spread-length)
+returns c = let s = c .before .before .before .before .before .before .before .before .before .before .before .before .before .before .before .before .before .before .before .before .before .before .before .before .before .before .before .before .before .before .before .before .before .before .before .before .before .before .before .before .before .before .before .before .before .before .before .before .before .before in upto-all (placeOne tenStrands) many _ _ _ (stage-12 (c .before .before)) (length-few _ (s .pre .0 .level-low) (s .pre .0 .level-high))
 
 pub lay-plane-spec : {M : Type 1} → statement M
 lay-plane-spec =
     tie.close
     (tie.spec
-    (level-1 .0) (level-1 .1) (level-1 .2) (level-1 .3) (level-1 .4) (level-1 .5) (level-1 .6) (level-1 .7) (level-1 .8) returns
-    (level-2 .0) (level-2 .1) (level-2 .2) (level-2 .3) (level-2 .4) returns-2
-    (level-3 .0) (level-3 .1) (level-3 .2) returns-3
-    (level-4 .0) (level-4 .1) (level-4 .2) (level-4 .3) (level-4 .4) returns-4
-    (level-5 .0) (level-5 .1) (level-5 .2) (level-5 .3) (level-5 .4) returns-5
-    (level-6 .0) (level-6 .1) (level-6 .2) returns-6
-    (level-7 .0) (level-7 .1) (level-7 .2) (level-7 .3) (level-7 .4) returns-7
-    (level-8 .0) (level-8 .1) (level-8 .2) (level-8 .3) (level-8 .4) returns-8
-    (level-9 .0) (level-9 .1) (level-9 .2) (level-9 .3) (level-9 .4) returns-9
-    (level-10 .0) (level-10 .1) (level-10 .2) (level-10 .3) (level-10 .4) returns-10)
+    one-requires
+    one-requires-2
+    two-requires
+    two-requires-2
+    one-requires-3
+    two-requires-3
+    two-requires-4
+    one-requires-4
+    two-requires-5
+    two-requires-6
+    two-requires-7
+    two-requires-8
+    same-length
+    returns)

@@ -2,7 +2,7 @@
 use mathlib.Core.Path.{refl}
 use native.Mathlib.Omega.{arith}
 use lib.ListN.{replicate}
-use Rattle.space.proofs.Tables.{length-few, room-in}
+use Rattle.space.proofs.Tables.{length-few}
 use Rattle.space.proofs.Writing.{put-code}
 use borrow.Author.Needs.{needs}
 use Rattle.space.proofs.put.Statement.{statement}
@@ -23,7 +23,7 @@ slice-aggregate-lay-plane c = search needs
 lay-plane-requires : tie.Need-lay-plane-requires
 lay-plane-requires c κs =
     let s = c .before .before .before .before .before .before in
-    (room-in (s .args .l) _ (s .pre .0 .level-low) (s .pre .0 .level-high) (s .pre .1), search needs)
+    (record { level-low = s .pre .0 .level-low; level-high = s .pre .0 .level-high; room = s .pre .1 }, search needs)
 
 slice-aggregate-put-2 : tie.Need-slice-aggregate-put-2
 slice-aggregate-put-2 c = search needs
@@ -37,7 +37,7 @@ slice-aggregate-lay-height c = search needs
 lay-height-requires : tie.Need-lay-height-requires
 lay-height-requires c κs =
     let s = c .before .before .before .before .before .before .before .before .before .before .before .before .before .before in
-    (room-in (s .args .l) _ (s .pre .0 .level-low) (s .pre .0 .level-high) (omega (arith, s .pre .1)), search needs)
+    (record { level-low = s .pre .0 .level-low; level-high = s .pre .0 .level-high; room = omega (arith, s .pre .1) }, search needs)
 
 same-length : tie.Need-same-length
 same-length c = search needs

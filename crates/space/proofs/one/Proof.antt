@@ -1,0 +1,25 @@
+-- `space::one` meets its contract. Assumes nothing.
+use mathlib.Core.Path.{refl}
+use borrow.Author.Needs.{needs}
+use borrow.Author.Tests.{lt-ltb, le-ltb}
+use Rattle.space.proofs.one.Statement.{statement}
+use Rattle.space.proofs.one.Tie as tie
+
+returns : tie.Need-returns
+returns c = rw (le-ltb _ _ (c .if1 .taken)) refl
+
+shared-slice-read-line : tie.Need-shared-slice-read-line
+shared-slice-read-line c = search needs
+
+slice-write-line : tie.Need-slice-write-line
+slice-write-line c = c .before .before .pre .1 (c .before .if1 .left)
+
+same-length : tie.Need-same-length
+same-length c = search needs
+
+returns-2 : tie.Need-returns-2
+returns-2 c = rw (lt-ltb _ _ (c .before .if1 .left)) refl
+
+pub one-spec : {M : Type 1} → statement M
+one-spec =
+    tie.close (tie.spec returns shared-slice-read-line slice-write-line same-length returns-2)
