@@ -1,5 +1,5 @@
 -- `ordinary_write::zone` meets its contract. Assumes nothing.
-use mathlib.Core.Path.{_≡_, ap}
+use mathlib.Core.Path.{_≡_, ap, refl}
 use Prim.Native.Nat.{_/_, _<_}
 use native.Mathlib.Omega.{arith}
 use borrow.Author.Needs.{needs}
@@ -28,10 +28,10 @@ sub-result : tie.Need-sub-result
 sub-result c = omega (arith, few (c .before .before))
 
 returns : tie.Need-returns
-returns c = rw (c .before .if1 .taken, wide (c .before .before))
+returns c = rw (c .before .if1 .taken, wide (c .before .before)) refl
 
 returns-2 : tie.Need-returns-2
-returns-2 c = rw (c .before .if1 .left, wide (c .before .before))
+returns-2 c = rw (c .before .if1 .left, wide (c .before .before)) refl
 
 pub zone-spec : {M : Type 1} → statement M
 zone-spec =
