@@ -16,34 +16,33 @@ pub struct Row {
     pub against: &'static str,
     /// The greatest ratio allowed, if there is one.
     pub bar: Option<f64>,
+    /// The least times so far, in nanoseconds a call: ours, and each of the others'.
+    least: (f64, Vec<f64>),
 }
 
 impl Row {
     pub fn new(name: impl Into<String>, ours: Pass, others: Vec<Pass>, against: &'static str, bar: Option<f64>) -> Row {
-        Row { name: name.into(), ours, others, against, bar }
+        let least = (f64::INFINITY, vec![f64::INFINITY; others.len()]);
+        Row { name: name.into(), ours, others, against, bar, least }
     }
 
     pub fn plain(name: impl Into<String>, ours: Pass, plain: Pass, bar: Option<f64>) -> Row {
         Row::new(name, ours, vec![plain], PLAIN, bar)
     }
 
-    /// The least time of some rounds, in nanoseconds a call, of ours and of the others. They take turns, so that both meet the same
-    /// disturbances.
-    fn times(&mut self, rounds: usize) -> (f64, f64) {
-        let mut ours = f64::INFINITY;
-        let mut others = vec![f64::INFINITY; self.others.len()];
+    /// Some rounds more, of which the least times are kept. The sides take turns, so that both meet the same disturbances.
+    fn time(&mut self, rounds: usize) {
         for _ in 0..rounds {
-            ours = ours.min(nanoseconds(&mut self.ours));
-            for (least, pass) in others.iter_mut().zip(&mut self.others) {
+            self.least.0 = self.least.0.min(nanoseconds(&mut self.ours));
+            for (least, pass) in self.least.1.iter_mut().zip(&mut self.others) {
                 *least = least.min(nanoseconds(pass));
             }
         }
-        (ours, others.iter().sum())
     }
 
-    /// Times and prints the row; whether it is within its bar.
-    fn show(&mut self, rounds: usize) -> bool {
-        let (ours, other) = self.times(rounds);
+    /// Prints the row; whether it is within its bar.
+    fn show(&self) -> bool {
+        let (ours, other) = (self.least.0, self.least.1.iter().sum::<f64>());
         let ratio = ours / other;
         let bar = self.bar.map_or("-".to_string(), |bar| format!("{bar:.2}"));
         println!("{:<34} {ours:>8.1} ns {other:>8.1} ns {ratio:>7.2} {bar:>6}  {}", self.name, self.against);
@@ -72,15 +71,15 @@ fn nanoseconds(pass: &mut Pass) -> f64 {
     from.elapsed().as_nanos() as f64 / (PASSES * MANY) as f64
 }
 
-/// Prints the table and its verdict; whether every row is within its bar.
+/// Times every row, prints the table and its verdict; whether every row is within its bar. The rows are gone through in laps, so that a machine
+/// that is busy for a second does not spoil all the rounds of one row.
 pub fn show(rows: &mut [Row], rounds: usize) -> bool {
-    println!("{:<34} {:>11} {:>11} {:>7} {:>6}  against", "call", "ours", "other", "ratio", "bar");
-    let mut over = Vec::new();
-    for row in rows {
-        if !row.show(rounds) {
-            over.push(row.name.as_str());
-        }
+    const LAPS: usize = 15;
+    for _ in 0..LAPS {
+        rows.iter_mut().for_each(|row| row.time(rounds.div_ceil(LAPS)));
     }
+    println!("{:<34} {:>11} {:>11} {:>7} {:>6}  against", "call", "ours", "other", "ratio", "bar");
+    let over: Vec<&str> = rows.iter().filter(|row| !row.show()).map(|row| row.name.as_str()).collect();
     if over.is_empty() {
         println!("bench: all within their bars");
     } else {
