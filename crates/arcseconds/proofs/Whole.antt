@@ -25,7 +25,7 @@ use native.Mathlib.Numerals.{add-one}
 use native.Mathlib.Omega.{arith}
 use lib.IntN.{ℤ, pos, negsuc, negℤ, sucℤ, _*ℤ_, pos-*ℤ-pos, negsuc-*ℤ-pos}
 use lib.Signed.{_≤ℤ_, _<ℤ_}
-use lib.Dec.{leb, ltb, leb→le, ltb→lt, le→leb, lt→ltb}
+use lib.Dec.{leb→le, ltb→lt, le→leb, lt→ltb}
 use lib.Ieee.Nearest.{div-same}
 use Rattle.grid.specs.Units.{unit}
 use Rattle.arcseconds.specs.Readings.{greatestWhole, signed}

@@ -31,6 +31,7 @@ readingOf half nan = Outside
 readingOf half (inf s) = Outside
 readingOf half (fin s m e) = inRange half (greatestWhole s (2048 * (m * up e)) (down e))
 
+-- a position in whole units
 abbrev pub units : ℤ → ℤ → Units
 units u v = record { longitude = u; latitude = v }
 
@@ -51,6 +52,7 @@ unitsRead (Refused r) = refused r
 
 -- ---- what it means that units are the greatest whole ones not above a reading
 
+-- n, or - n where s is true
 abbrev pub signed : Bool → ℕ → ℤ
 signed false n = pos n
 signed true n = negℤ (pos n)

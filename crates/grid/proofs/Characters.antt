@@ -7,8 +7,8 @@ use Prim.Native.Nat.{ℕ, _+_, _-_, _%_, _^_, _≤_, _<_}
 use native.Mathlib.Omega.{arith}
 use lib.Dec.{ltb, leb, eqb}
 use borrow.Author.Tests.{ltb-true, ltb-false, leb-true, eqb-true, lt-ltb, le-ltb, le-leb, lt-leb}
-use Rattle.grid.specs.Characters.{charOf, digitOf, decimalOf}
-use Rattle.grid.specs.Tree.{Read, bad, guard}
+use Rattle.grid.specs.Characters.{charOf, digitOf, decimalDigit}
+use Rattle.grid.specs.Tree.{Read, guard}
 use Rattle.grid.proofs.Cut.{and-true, below, Below}
 
 -- ---- where a byte's digit is found
@@ -99,25 +99,25 @@ unfolding charOf
 char-decimal v h = rw (lt-ltb v 10 h) refl
 
 module _ (b : ℕ) where
-  pub decimal-below : digitOf b < 10 → decimalOf b ≡ digitOf b
-  unfolding decimalOf
+  pub decimal-below : digitOf b < 10 → decimalDigit b ≡ digitOf b
+  unfolding decimalDigit
   decimal-below h = rw (lt-ltb (digitOf b) 10 h) refl
 
-  pub decimal-above : 10 ≤ digitOf b → decimalOf b ≡ 32
-  unfolding decimalOf
+  pub decimal-above : 10 ≤ digitOf b → decimalDigit b ≡ 32
+  unfolding decimalDigit
   decimal-above h = rw (le-ltb (digitOf b) 10 h) refl
 
   -- by its distance from '0', taken around the 32 bits
   module _ (d : ℕ) (e : (d + 48) % 2 ^ 32 ≡ b) where
-    pub decimal-near : d < 10 → d ≡ decimalOf b
+    pub decimal-near : d < 10 → d ≡ decimalDigit b
     decimal-near h =
         let f : d ≡ digitOf b = near-zero b d e h in
         f ∙ sym (decimal-below (omega arith))
 
-    pub decimal-far : 10 ≤ d → d < 2 ^ 32 → 32 ≡ decimalOf b
+    pub decimal-far : 10 ≤ d → d < 2 ^ 32 → 32 ≡ decimalDigit b
     decimal-far h k = go (ltb (digitOf b) 10) refl
       where
-        go : (q : Bool) → ltb (digitOf b) 10 ≡ q → 32 ≡ decimalOf b
+        go : (q : Bool) → ltb (digitOf b) 10 ≡ q → 32 ≡ decimalDigit b
         go true q =
             let l : digitOf b < 10 = ltb-true _ _ q in
             let c : 48 + digitOf b ≡ b = char-decimal (digitOf b) l ∙ char-digit b (omega arith) in
@@ -125,10 +125,10 @@ module _ (b : ℕ) where
         go false q = sym (decimal-above (ltb-false _ _ q))
 
   -- a test against a limit of at most 10 does not tell the two apart
-  pub decimal-guard : {A : Type 0} (p limit : ℕ) (f : ℕ → Read A) → limit ≤ 10 → guard p (ltb (decimalOf b) limit) (f (decimalOf b)) ≡ guard p (ltb (digitOf b) limit) (f (digitOf b))
+  pub decimal-guard : {A : Type 0} (p limit : ℕ) (f : ℕ → Read A) → limit ≤ 10 → guard p (ltb (decimalDigit b) limit) (f (decimalDigit b)) ≡ guard p (ltb (digitOf b) limit) (f (digitOf b))
   decimal-guard p limit f h = go (ltb (digitOf b) 10) refl
     where
-      go : (q : Bool) → ltb (digitOf b) 10 ≡ q → guard p (ltb (decimalOf b) limit) (f (decimalOf b)) ≡ guard p (ltb (digitOf b) limit) (f (digitOf b))
+      go : (q : Bool) → ltb (digitOf b) 10 ≡ q → guard p (ltb (decimalDigit b) limit) (f (decimalDigit b)) ≡ guard p (ltb (digitOf b) limit) (f (digitOf b))
       go true q = rw (decimal-below (ltb-true _ _ q)) refl
       go false q =
           let l : 10 ≤ digitOf b = ltb-false _ _ q in

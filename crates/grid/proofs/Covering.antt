@@ -1,8 +1,8 @@
 -- The squares of a node in its own frame are those of the cell that a caller is handed.
 -- Assumes nothing.
-use mathlib.Core.Path.{_≡_, refl, sym, _∙_, ap, subst}
+use mathlib.Core.Path.{_≡_, refl, _∙_}
 use mathlib.Core.Bool.{Bool, true, false}
-use mathlib.Core.List.{List, [], _∷_}
+use mathlib.Core.List.{List}
 use mathlib.Core.Logic.{_↔_}
 use Prim.Native.Nat.{ℕ, _+_, _-_, _%_, _≤_, _<_}
 use native.Mathlib.Omega.{arith}
@@ -10,11 +10,11 @@ use lib.IntN.{ℤ, pos, negsuc}
 use Rattle.grid.specs.declared.Split.{Split}
 use Rattle.grid.specs.declared.Cell.{Cell}
 use Rattle.grid.specs.Units.{side, index, eastward, fromPole, Square, OnGlobe}
-use Rattle.grid.specs.Cells.{around, above-least, Within, Covers}
+use Rattle.grid.specs.Cells.{around, Within, Covers}
 use Rattle.grid.specs.Plane.{ordinary, belt, disc, Box, Node, globe, pole, cell, cap, least, longitudeAt, leastFromPole, cellFrom, cellAt}
 use Rattle.grid.proofs.Cut.{clash}
-use Rattle.grid.proofs.Step.{In, InCell, InPole, InCap, Inside}
-use Rattle.grid.proofs.PlaneLaws.{Good, GoodCell, GoodCap, Fit, eastward-longitudeAt, index-longitudeAt, cell-positive, cap-positive}
+use Rattle.grid.proofs.Step.{In, Inside}
+use Rattle.grid.proofs.PlaneLaws.{Good, eastward-longitudeAt, index-longitudeAt, cell-positive, cap-positive}
 
 abbrev AlongW : ℤ → ℕ → ℤ → Type 0
 AlongW west w u = (around u + (2654208000 - around west)) % 2654208000 < w

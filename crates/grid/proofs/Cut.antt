@@ -1,15 +1,15 @@
 -- One segment cut into k equal parts: which part a number is in. What a test that was passed says, and a test of each number below n.
 -- Assumes nothing.
 use mathlib.Core.Path.{_≡_, refl, sym, _∙_, ap, subst}
-use mathlib.Core.Bool.{Bool, true, false, not, cond, _&&_, _||_}
-use Prim.Native.Nat.{ℕ, zero, suc, _+_, _-_, _*_, _/_, _%_, _≤_, _<_, min}
+use mathlib.Core.Bool.{Bool, true, false, _&&_}
+use Prim.Native.Nat.{ℕ, zero, suc, _+_, _-_, _*_, _/_, _%_, _≤_, _<_}
 use mathlib.Core.List.{List, [], _∷_, _++_}
 use mathlib.Core.Logic.{_⊎_, inl, inr}
 use native.Mathlib.Omega.{arith}
-use native.Mathlib.Nat.{div-lt-iff-lt-mul, div-mul-le-self, lt-div-mul-add, div-eq-of-lt-le, div-add-mod', mod-lt, mod-eq-of-lt, mul-add-mod-self-right, mul-add-div-right, mul-le-mul-right, mul-assoc, mul-pos, add-mul, one-mul, le-trans}
-use lib.Dec.{T, ltb, leb, eqb}
+use native.Mathlib.Nat.{div-lt-iff-lt-mul, div-mul-le-self, lt-div-mul-add, div-eq-of-lt-le, div-add-mod', mod-lt, mod-eq-of-lt, mul-add-mod-self-right, mul-add-div-right, mul-le-mul-right, mul-assoc, mul-pos, add-mul, one-mul}
+use lib.Dec.{ltb, eqb}
 use lib.ListN.{getD}
-use borrow.Author.Tests.{ltb-true, leb-true, eqb-true, eqb-false, lt-ltb, le-leb, eq-eqb}
+use borrow.Author.Tests.{ltb-true, eqb-true, eqb-false}
 use Rattle.grid.specs.Tree.{Read, ok, bad, guard}
 
 -- part c of k parts of length d, from x0 on, holds x

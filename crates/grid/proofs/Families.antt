@@ -1,7 +1,7 @@
 -- What the demands ask, for any family of codes whose tree obeys the laws of one step.
 -- Assumes nothing.
 use mathlib.Core.Path.{_≡_, refl, sym, _∙_, ap, subst}
-use mathlib.Core.Bool.{Bool, true, false, cond, _&&_, _||_}
+use mathlib.Core.Bool.{Bool, true, false, cond, _||_}
 use mathlib.Core.List.{List, [], _∷_, _++_, map, map-append}
 use mathlib.Core.Option.{Option, some, none}
 use mathlib.Core.Logic.{_↔_, _⊎_, inl, inr}
@@ -11,13 +11,12 @@ use lib.Dec.{ltb, leb, eqb}
 use lib.ListN.{length, take, drop, getD, length-map, length-append}
 use lib.Seq.{take-add, take-at}
 use borrow.Author.Tests.{ltb-true, leb-true, leb-false, eqb-true}
-use Rattle.grid.specs.declared.Refusal.{Refusal}
 use Rattle.grid.specs.Characters.{charOf, digitOf}
-use Rattle.grid.specs.Tree.{Tree, Read, ok, bad, code, follow}
-use Rattle.grid.specs.Answers.{Answer, accepted, refused, wrongLength, wrongCharacter}
+use Rattle.grid.specs.Tree.{Read, ok, bad, code, follow}
+use Rattle.grid.specs.Answers.{Answer, accepted, refused, wrongCharacter}
 use Rattle.grid.specs.Codes.{Codes, codeIn, readIn, placeIn, answer, answerAt}
 use Rattle.grid.specs.Demands.{Family, Begins, Accepted, Given, Share, FirstBad, Demands}
-use Rattle.grid.proofs.Cut.{clash, Below, and-true, allBelow, below}
+use Rattle.grid.proofs.Cut.{clash, Below, allBelow, below}
 use Rattle.grid.proofs.Lists.{take-map}
 use Rattle.grid.proofs.Characters.{digits-chars, chars-digits}
 use Rattle.grid.proofs.Laws.{Laws, Ends, total, code-holds, code-only, length-code, code-small, code-more, follow-good, follow-small, follow-ends}

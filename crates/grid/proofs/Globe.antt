@@ -1,6 +1,6 @@
 -- The first step, of the globe, into sheets and the two polar cells.
 -- Assumes nothing.
-use mathlib.Core.Path.{_≡_, refl, sym, _∙_, ap, subst}
+use mathlib.Core.Path.{_≡_, refl, sym, subst}
 use mathlib.Core.Bool.{Bool, true, false, cond, _&&_, _||_}
 use mathlib.Core.List.{List, [], _∷_}
 use mathlib.Core.Logic.{_⊎_, inl, inr}
@@ -11,7 +11,7 @@ use lib.IntN.{ℤ, pos, negsuc}
 use lib.ListN.{length}
 use borrow.Author.Tests.{ltb-true, leb-true, eqb-true, ltb-false, leb-false, eqb-false, lt-ltb, le-ltb, le-leb, lt-leb, ne-eqb}
 use Rattle.grid.specs.Units.{POLAR, side, index, Square, OnGlobe}
-use Rattle.grid.specs.Tree.{Read, ok, bad, guard}
+use Rattle.grid.specs.Tree.{ok, guard}
 use Rattle.grid.specs.Plane.{ordinary, Node, pole, cell, letter, zone, globeDigits, sheet, globeChild}
 use Rattle.grid.proofs.Cut.{clash, and-true, guard-ok, ok-inj}
 use Rattle.grid.proofs.Step.{In, InPole}

@@ -1,22 +1,22 @@
 -- One step of the plane's tree that is refused: the place is the first at which no digits lead on.
 -- Assumes nothing.
 use mathlib.Core.Path.{_≡_, refl, sym, _∙_, ap, subst}
-use mathlib.Core.Bool.{Bool, true, false, not, cond, _&&_, _||_}
+use mathlib.Core.Bool.{Bool, true, false, cond, _&&_, _||_}
 use mathlib.Core.List.{List, [], _∷_}
 use mathlib.Core.Logic.{_⊎_, inl, inr}
-use Prim.Native.Nat.{ℕ, zero, suc, _+_, _-_, _*_, _/_, _%_, _≤_, _<_, min}
+use Prim.Native.Nat.{ℕ, suc, _+_, _-_, _*_, _/_, _%_, _≤_, _<_, min}
 use native.Mathlib.Omega.{arith}
 use lib.Dec.{ltb, leb, eqb}
 use lib.ListN.{length, take}
 use lib.Seq.{take-all}
-use borrow.Author.Tests.{ltb-true, leb-true, eqb-true, lt-ltb, le-ltb, le-leb, lt-leb, eq-eqb, ne-eqb}
+use borrow.Author.Tests.{ltb-true, leb-true, lt-ltb, le-leb}
 use Rattle.grid.specs.Tree.{Read, ok, bad, guard}
 use Rattle.grid.specs.Plane.{Node, pole, Form, pair, quad, trio, Part, allowed, readAs, sheet, globeChild, polarNode, poleChild}
-use Rattle.grid.proofs.Cut.{clash, and-true, guard-ok, guard-bad}
+use Rattle.grid.proofs.Cut.{clash, guard-ok, guard-bad}
 use Rattle.grid.proofs.Laws.{Halts}
-use Rattle.grid.proofs.Step.{Exact, Allowed, allowed-to, Choice, write-read, length-write, formSize}
+use Rattle.grid.proofs.Step.{Exact, allowed-to, write-read, length-write, formSize}
 use Rattle.grid.proofs.Globe.{globe-sized}
-use Rattle.grid.proofs.Poles.{two-of, Two, pole-sized}
+use Rattle.grid.proofs.Poles.{pole-sized}
 
 -- at the last place nothing is left to go on with
 pub last-halts : {A : Type 0} (child : List ℕ → Read A) (w v : List ℕ) (p k : ℕ) (m : A) → length w ≡ suc k → length v ≡ suc k → child w ≡ bad p → child v ≡ ok m → take (suc k) v ≡ take (suc k) w → ⊥

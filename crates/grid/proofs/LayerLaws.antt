@@ -3,8 +3,8 @@
 use mathlib.Core.Path.{_≡_, refl, sym, _∙_, ap, subst}
 use mathlib.Core.Bool.{Bool, true, false, _&&_}
 use mathlib.Core.List.{List, [], _∷_}
-use mathlib.Core.Logic.{_⊎_, inl, inr}
-use Prim.Native.Nat.{ℕ, zero, suc, _+_, _-_, _*_, _/_, _%_, _≤_, _<_}
+use mathlib.Core.Logic.{inl, inr}
+use Prim.Native.Nat.{ℕ, _+_, _-_, _*_, _/_, _%_, _≤_, _<_}
 use native.Mathlib.Omega.{arith}
 use native.Mathlib.Nat.{div-le-self, lt-of-lt-of-le}
 use lib.Dec.{ltb, leb, eqb}
@@ -12,10 +12,10 @@ use lib.IntN.{ℤ, pos, negsuc}
 use lib.ListN.{length, take}
 use borrow.Author.Tests.{ltb-true, leb-true, eqb-true, lt-ltb, le-leb}
 use Rattle.grid.specs.Units.{side, index}
-use Rattle.grid.specs.Tree.{Tree, Read, ok, bad, guard}
-use Rattle.grid.specs.Cells.{above-least, Within}
+use Rattle.grid.specs.Tree.{ok, bad, guard}
+use Rattle.grid.specs.Cells.{Within}
 use Rattle.grid.specs.Layers.{rise, sign, Stack, all, part, stackDigits, allChild, partChild, stackChild, Radix, layers, floorOf, thicknessOf}
-use Rattle.grid.proofs.Cut.{clash, Below, Held, cut-held, cut-only, cut-below, cut-end, and-true, guard-ok, guard-bad, ok-inj, below}
+use Rattle.grid.proofs.Cut.{clash, Below, cut-held, cut-only, cut-below, cut-end, and-true, guard-ok, guard-bad, ok-inj, below}
 use Rattle.grid.proofs.Laws.{Laws, Halts}
 use Rattle.grid.proofs.Step.{less-zero}
 use Rattle.grid.proofs.Halting.{last-halts}

@@ -12,7 +12,6 @@ use lib.Seq.{take-at, drop-at, take-all, length-take-le, drop-drop, sets, sets-e
 use borrow.Rule.Slice.PartMut.{putMid}
 use borrow.Author.Tests.{leb-true, le-leb, lt-leb}
 use Rattle.grid.specs.declared.Refusal.{Refusal}
-use Rattle.grid.specs.declared.Cell.{Cell}
 use Rattle.grid.specs.declared.Written.{Written}
 use Rattle.grid.specs.declared.Written.the-variants as written-as
 use Rattle.grid.specs.declared.PlaneRead.{PlaneRead}

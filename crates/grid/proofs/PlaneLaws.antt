@@ -1,19 +1,19 @@
 -- The laws of one step, for the plane's tree. The table of splits is tested once, by computing.
 -- Assumes nothing.
 use mathlib.Core.Path.{_≡_, refl, sym, _∙_, ap, subst}
-use mathlib.Core.Bool.{Bool, true, false, cond, _&&_}
+use mathlib.Core.Bool.{Bool, true, false, _&&_}
 use mathlib.Core.List.{List, [], _∷_}
 use mathlib.Core.Logic.{_⊎_, inl, inr}
 use Prim.Native.Nat.{ℕ, zero, suc, _+_, _-_, _*_, _≤_, _<_}
 use native.Mathlib.Omega.{arith}
 use lib.Dec.{ltb, leb, eqb}
-use lib.IntN.{ℤ, pos, negsuc}
+use lib.IntN.{pos}
 use lib.ListN.{length, take}
 use borrow.Author.Tests.{ltb-true, leb-true, eqb-true, ltb-false, eqb-false}
 use Rattle.grid.specs.declared.Split.{Split}
 use Rattle.grid.specs.declared.Place.{Place}
-use Rattle.grid.specs.Units.{TURN, HALF, QUARTER, POLAR, side, index, unit, eastward, fromPole, Square, squareOf, OnGlobe}
-use Rattle.grid.specs.Tree.{Tree, Read, ok, bad}
+use Rattle.grid.specs.Units.{TURN, HALF, QUARTER, POLAR, side, index, unit, eastward, Square, squareOf, OnGlobe}
+use Rattle.grid.specs.Tree.{ok, bad}
 use Rattle.grid.specs.Splits.{splits, polarCellAt}
 use Rattle.grid.specs.Plane.{
   Frame,
@@ -46,27 +46,11 @@ use Rattle.grid.specs.Plane.{
   plane,
   longitudeAt,
 }
-use Rattle.grid.proofs.Cut.{clash, Below, and-true, guard-ok, ok-inj, cut-end, below}
+use Rattle.grid.proofs.Cut.{clash, Below, and-true, cut-end, below}
 use Rattle.grid.proofs.Laws.{Laws, Halts}
-use Rattle.grid.proofs.Step.{
-  Allowed,
-  In,
-  InCell,
-  Inside,
-  exact,
-  Exact,
-  exact-of,
-  Choice,
-  write-read,
-  length-write,
-  write-small,
-  cell-here,
-  cell-only,
-  cap-here,
-  cap-only,
-}
+use Rattle.grid.proofs.Step.{Allowed, In, InCell, Inside, exact, Exact, exact-of, write-read, length-write, write-small, cell-here, cell-only, cap-here, cap-only}
 use Rattle.grid.proofs.Globe.{globe-here, globe-only, globe-cases, Sheet, Pole, globe-sized}
-use Rattle.grid.proofs.Poles.{pole-here, pole-only, two-of, Placed, placed, pole-sized}
+use Rattle.grid.proofs.Poles.{pole-here, pole-only, two-of, placed, pole-sized}
 use Rattle.grid.proofs.Halting.{read-halts, globe-halts, pole-halts}
 
 -- ---- the test of the table: every division that can occur comes out in whole units

@@ -1,35 +1,19 @@
 -- The second step, of N000 and S000, into the sixteen polar cells: each polar square is in one of them.
 -- Where they lie is tested once, over tiles of 60° by 30'.
 -- Assumes nothing.
-use mathlib.Core.Path.{_≡_, refl, sym, _∙_, ap, subst}
-use mathlib.Core.Bool.{Bool, true, false, not, cond, _&&_, _||_}
+use mathlib.Core.Path.{_≡_, refl, sym, _∙_, subst}
+use mathlib.Core.Bool.{Bool, true, false, not, _&&_, _||_}
 use mathlib.Core.List.{List, [], _∷_}
 use Prim.Native.Nat.{ℕ, zero, suc, _+_, _-_, _*_, _/_, _%_, _≤_, _<_}
 use native.Mathlib.Omega.{arith}
 use lib.Dec.{ltb, leb, eqb}
 use lib.IntN.{ℤ, pos, negsuc}
 use lib.ListN.{length}
-use borrow.Author.Tests.{ltb-true, leb-true, eqb-true, ltb-false, eqb-false, lt-ltb, le-ltb, le-leb, eq-eqb, ne-eqb}
-use Rattle.grid.specs.Units.{TURN, HALF, POLAR, DISC, side, index, eastward, fromPole, Square, OnGlobe}
-use Rattle.grid.specs.Tree.{Read, ok, bad}
+use borrow.Author.Tests.{ltb-true, leb-true, eqb-true, ltb-false, eqb-false, lt-ltb, le-leb, eq-eqb}
+use Rattle.grid.specs.Units.{HALF, POLAR, side, index, eastward, fromPole, Square, OnGlobe}
+use Rattle.grid.specs.Tree.{ok}
 use Rattle.grid.specs.Splits.{polarCellAt}
-use Rattle.grid.specs.Plane.{
-  belt,
-  disc,
-  Node,
-  cell,
-  cap,
-  SIXTH,
-  polarWidth,
-  polarHolds,
-  firstFrom,
-  polarCellOf,
-  poleDigits,
-  beltBox,
-  discBox,
-  polarNode,
-  poleChild,
-}
+use Rattle.grid.specs.Plane.{belt, disc, Node, SIXTH, polarWidth, polarHolds, firstFrom, polarCellOf, poleDigits, beltBox, discBox, polarNode, poleChild}
 use Rattle.grid.proofs.Cut.{clash, and-true, and-make, same-bool, guard-ok, ok-inj, allBelow, below}
 use Rattle.grid.proofs.Step.{In, InCell, InPole, InCap, eastward-below}
 

@@ -2,7 +2,7 @@
 -- The crates that take or give signed numbers cite these. Assumes nothing.
 use mathlib.Core.Path.{_≡_, refl, sym, ap, subst, _∙_}
 use mathlib.Core.Bool.{true, false}
-use Prim.Native.Nat.{ℕ, zero, suc, _-_, _<_, _^_, zero-le}
+use Prim.Native.Nat.{ℕ, zero, suc, _<_, _^_, zero-le}
 use native.Mathlib.Omega.{arith}
 use native.Mathlib.Nat.{not-suc-le-zero}
 use borrow.Author.Tests.{ltb-true, le-ltb, le-leb}

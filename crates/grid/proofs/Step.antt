@@ -1,16 +1,16 @@
 -- One step of the plane's tree: writing a child's digits and reading them back, and the division of a cell and of a cap.
 -- Assumes nothing.
 use mathlib.Core.Path.{_≡_, refl, sym, _∙_, ap, subst}
-use mathlib.Core.Bool.{Bool, true, false, not, cond, _&&_, _||_}
+use mathlib.Core.Bool.{Bool, true, false, not, _&&_, _||_}
 use mathlib.Core.List.{List, [], _∷_}
 use Prim.Native.Nat.{ℕ, zero, suc, _+_, _-_, _*_, _/_, _%_, _≤_, _<_, min}
 use native.Mathlib.Omega.{arith}
-use lib.Dec.{T, ltb, leb, eqb}
+use lib.Dec.{ltb, leb, eqb}
 use lib.IntN.{ℤ, pos, negsuc}
 use lib.ListN.{length}
-use borrow.Author.Tests.{ltb-true, leb-true, eqb-true, lt-ltb, le-leb, eq-eqb}
-use Rattle.grid.specs.Units.{TURN, HALF, QUARTER, POLAR, side, index, eastward, fromPole, Square, OnGlobe}
-use Rattle.grid.specs.Tree.{Read, ok, bad}
+use borrow.Author.Tests.{ltb-true, leb-true, eqb-true, lt-ltb, eq-eqb}
+use Rattle.grid.specs.Units.{TURN, POLAR, side, index, eastward, fromPole, Square, OnGlobe}
+use Rattle.grid.specs.Tree.{ok}
 use Rattle.grid.specs.Plane.{
   Frame,
   ordinary,
@@ -41,7 +41,7 @@ use Rattle.grid.specs.Plane.{
   cellChild,
   capChild,
 }
-use Rattle.grid.proofs.Cut.{clash, Below, Held, cut-held, cut-only, cut-below, cut-end, and-true, and-make, guard-ok, ok-inj}
+use Rattle.grid.proofs.Cut.{clash, Below, cut-held, cut-only, cut-below, cut-end, and-true, and-make, guard-ok, ok-inj}
 
 -- ---- which columns and rows are allowed
 

@@ -1,12 +1,12 @@
 -- The demands, met by plane codes over unit squares and by space codes over unit cubes.
 -- Assumes nothing.
 use mathlib.Core.Path.{_≡_, refl}
-use mathlib.Core.Bool.{Bool, true, false, _&&_}
-use mathlib.Core.List.{List, [], _∷_, map}
+use mathlib.Core.Bool.{Bool, true, _&&_}
+use mathlib.Core.List.{List, []}
 use mathlib.Core.Logic.{_↔_}
 use Prim.Native.Nat.{ℕ, _≤_, _<_}
 use native.Mathlib.Omega.{arith}
-use lib.ListN.{length, take}
+use lib.ListN.{take}
 use Rattle.grid.specs.Units.{index, OnGlobe, Cube, OnGrid}
 use Rattle.grid.specs.Cells.{Covers, CoversCube}
 use Rattle.grid.specs.Splits.{splits}

@@ -8,7 +8,7 @@ use lib.IntN.{ℤ, pos, negsuc}
 use lib.ListN.{take, drop}
 use Rattle.grid.specs.declared.Split.{Split}
 use Rattle.grid.specs.declared.Cell.{Cell}
-use Rattle.grid.specs.Units.{DEGREE, TURN, HALF, QUARTER, POLAR, DISC, side, index, unit, eastward, fromPole, Square}
+use Rattle.grid.specs.Units.{DEGREE, TURN, HALF, QUARTER, POLAR, side, index, eastward, fromPole, Square}
 use Rattle.grid.specs.Characters.{digitOf}
 use Rattle.grid.specs.Tree.{Tree, Read, ok, bad, guard, shift, follow}
 use Rattle.grid.specs.Answers.{Answer}

@@ -11,7 +11,7 @@ use Rattle.grid.specs.Answers.{Answer}
 use Rattle.grid.specs.Codes.{Codes, codeIn, readIn}
 use Rattle.grid.specs.Splits.{splits}
 use Rattle.grid.specs.Plane.{Node, globe, plane, cellAt}
-use Rattle.grid.specs.Layers.{radices, product, Stack, all, Radix, layers, floorOf, thicknessOf}
+use Rattle.grid.specs.Layers.{radices, product, Stack, all, layers, floorOf, thicknessOf}
 use Rattle.grid.specs.Both.{Pair, both}
 
 abbrev pub space : ℕ → Tree

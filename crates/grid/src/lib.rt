@@ -6,7 +6,7 @@ ghost use Prim.Native.Nat.{_+_, _≤_, _<_};
 ghost use Rattle.grid.specs.Units.{side, index, unit};
 ghost use Rattle.grid.specs.Plane.{letter, least};
 ghost use Rattle.grid.specs.Splits.{splitAt, polarCellAt};
-ghost use Rattle.grid.specs.Characters.{charOf, digitOf, decimalOf};
+ghost use Rattle.grid.specs.Characters.{charOf, digitOf, decimalDigit};
 
 // One level of the grid: a line of document 01's table, and what a polar cell and a cap divide into.
 pub struct Split {
@@ -282,7 +282,7 @@ pub fn digit(b: u8) -> u32
 
 // A character's digit where it is one of 0 to 9, else 32. Where no digit from 10 on is allowed it serves as `digit` does, with one test less.
 pub fn decimal(b: u8) -> u32
-    ensures { λ r. ⌜ r ≡ decimalOf b ⌝ }
+    ensures { λ r. ⌜ r ≡ decimalDigit b ⌝ }
 {
     let d = std::num::wrapping_sub_u32(b as u32, 48);
     if d < 10 { d } else { 32 }

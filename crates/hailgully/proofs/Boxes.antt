@@ -1,5 +1,5 @@
 -- The box of a code, as the C interface hands it back. Assumes nothing.
-use mathlib.Core.Path.{_≡_, sym, _∙_, ap, subst}
+use mathlib.Core.Path.{_≡_, sym, subst}
 use Rattle.grid.specs.declared.Cell.{Cell}
 use Rattle.grid.specs.declared.Refusal.{Refusal}
 use Rattle.grid.specs.Answers.{Answer, accepted, refused}

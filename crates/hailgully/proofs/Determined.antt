@@ -1,10 +1,9 @@
 -- Two results that one contract allows are equal: for each public call of the library, and for its C form.
 -- Assumes nothing.
-use mathlib.Core.Path.{_≡_, sym, _∙_, ap}
+use mathlib.Core.Path.{_≡_, sym, _∙_}
 use mathlib.Core.List.{List}
 use Prim.Native.Nat.{ℕ}
 use lib.IntN.{ℤ}
-use lib.Ieee.{Float}
 use Rattle.grid.specs.declared.Cell.{Cell}
 use Rattle.grid.specs.declared.PlaneRead.{PlaneRead}
 use Rattle.grid.specs.declared.Written.{Written}
@@ -19,15 +18,13 @@ use Rattle.space.specs.declared.SpaceRead.{SpaceRead}
 use Rattle.space.specs.declared.SpaceRead.the-variants as space-as
 use Rattle.space.specs.Space.{spaceText, spaceRead}
 use Rattle.reference.specs.Text.{referenceText, targetText}
-use Rattle.arcseconds.specs.declared.UnitsRead.{UnitsRead}
 use Rattle.arcseconds.specs.declared.BoxRead.{BoxRead}
-use Rattle.arcseconds.specs.Readings.{unitsOf, unitsRead}
 use Rattle.arcseconds.specs.Boxes.{BoxSays}
 use Rattle.arcseconds.proofs.Exact.{one-exactly}
 use Rattle.arcseconds.proofs.Theorems as arc
 use Rattle.hailgully.specs.declared.HgBox.{HgBox}
 use Rattle.hailgully.specs.declared.HgRefusal.{HgRefusal}
-use Rattle.hailgully.specs.Results.{noRefusal, refusalOf, zeroCell, BoxIs, BoxFor}
+use Rattle.hailgully.specs.Results.{BoxIs, BoxFor}
 
 -- a writer that lays the text t down: its answer, and every byte of the line
 abbrev pub Determined : Text → List ℕ → ℕ → Type 0

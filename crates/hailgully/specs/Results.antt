@@ -21,6 +21,7 @@ use Rattle.hailgully.specs.declared.HgBox.{HgBox}
 abbrev pub noRefusal : HgRefusal
 noRefusal = record { number = 0; ordinal = 0; place = 0 }
 
+-- a refusal's three numbers
 abbrev pub refusalOf : Refusal → HgRefusal
 refusalOf r = record { number = r .number; ordinal = r .ordinal; place = r .place }
 

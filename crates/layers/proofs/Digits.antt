@@ -1,22 +1,22 @@
 -- The height digits straight from a layer's rise: what the writer lays down, level by level.
 -- Assumes nothing.
-use mathlib.Core.Path.{_≡_, refl, sym, _∙_, ap, subst}
+use mathlib.Core.Path.{_≡_, refl, _∙_, ap}
 use mathlib.Core.Bool.{Bool, true}
 use mathlib.Core.List.{List, [], _∷_, _++_, map}
-use Prim.Native.Nat.{ℕ, zero, suc, _+_, _-_, _*_, _/_, _%_, _≤_, _<_}
+use Prim.Native.Nat.{ℕ, zero, suc, _+_, _*_, _/_, _%_, _≤_, _<_}
 use native.Mathlib.Omega.{arith}
 use native.Mathlib.Nat.{div-lt-iff-lt-mul, mod-lt, mul-div-right}
 use native.Mathlib.Numerals.{add-one}
 use lib.IntN.{ℤ}
 use lib.ListN.{length, getD, take, drop, length-take}
-use lib.Seq.{take-take, take-suc}
-use borrow.Author.Tests.{lt-ltb, ltb-true}
+use lib.Seq.{take-suc}
+use borrow.Author.Tests.{lt-ltb}
 use Rattle.grid.specs.Units.{side, index}
 use Rattle.grid.specs.Tree.{code}
 use Rattle.grid.specs.Layers.{product, rise, sign, part, layers}
-use Rattle.grid.proofs.Cut.{clash, Below}
+use Rattle.grid.proofs.Cut.{clash}
 pub use Rattle.grid.proofs.Cut.{part-direct, begins-direct}
-use Rattle.grid.proofs.LayerLaws.{sign-small, rise-below, all-read}
+use Rattle.grid.proofs.LayerLaws.{rise-below, all-read}
 use Rattle.layers.specs.Heights.{later, heightDigits}
 use Rattle.layers.specs.Steps.{fairLater, Fair, thicknessAt, digitAt}
 use Rattle.layers.proofs.Radices.{later-fair, first-fair, product-some, ten}
@@ -49,15 +49,6 @@ pub length-direct : (rs : List ℕ) (X : ℕ) → length (direct rs X) ≡ lengt
 unfolding direct
 length-direct [] X = refl
 length-direct (r ∷ rs) X = ap suc (length-direct rs X)
-
-small-direct : (rs : List ℕ) (X l : ℕ) → fairLater rs ≡ true → Below 32 (take l (direct rs X))
-unfolding direct
-small-direct rs X zero e = tt
-small-direct [] X (suc l) e = tt
-small-direct (r ∷ rs) X (suc l) e =
-    let f = later-fair r rs e in
-    let m : X / product rs % r < r = mod-lt (X / product rs) (f .more) in
-    (omega (arith, f .few), small-direct rs X l (f .rest))
 
 at-direct : (rs : List ℕ) (X j : ℕ) → j < length rs → getD (direct rs X) j 0 ≡ X / product (drop (suc j) rs) % getD rs j 0
 unfolding direct
@@ -94,29 +85,6 @@ height-length (r ∷ rs) (suc l) z e h a b =
     let X = rise (product (r ∷ rs)) z in
     ap length (height-straight r rs l z e h)
     ∙ omega (arith, length-take l (direct rs X), length-direct rs X, ten (r ∷ rs) e)
-
--- each is a code character's
-pub height-small : (rs : List ℕ) (l : ℕ) (z : ℤ) → Fair rs → index z < product rs → Below 32 (heightDigits rs l z)
-unfolding heightDigits code
-height-small rs zero z e h = tt
-height-small [] (suc l) z e h = clash (let t = e .test in cc)
-height-small (r ∷ rs) (suc l) z e h =
-    let f = first-fair r rs e in
-    let X = rise (product (r ∷ rs)) z in
-    let m : r ≤ 100 = f .few in
-    let d : X / product rs < r = div-lt-iff-lt-mul (product-some rs (f .rest)) .1 (rise-below (product (r ∷ rs)) z h) in
-    subst (Below 32) (sym (height-straight r rs l z e h))
-    (omega (arith, ltb-true (sign (side z)) 2 (sign-small 0 (side z))), (omega arith, (omega arith, small-direct rs X l (f .rest))))
-
--- those of a coarser level are the beginning of those of a finer one
-pub height-begins : (rs : List ℕ) (l k : ℕ) (z : ℤ) → Fair rs → index z < product rs → 1 ≤ l → l ≤ k → take (2 + l) (heightDigits rs k z) ≡ heightDigits rs l z
-height-begins rs zero k z e h a b = absurd (omega arith)
-height-begins rs (suc l) zero z e h a b = absurd (omega arith)
-height-begins [] (suc l) (suc k) z e h a b = clash (let t = e .test in cc)
-height-begins (r ∷ rs) (suc l) (suc k) z e h a b =
-    let X = rise (product (r ∷ rs)) z in
-    let s : 2 + suc l ≡ suc (suc (suc l)) = omega arith in
-    rw (s, height-straight r rs k z e h, height-straight r rs l z e h, take-take l k (direct rs X) (omega arith)) refl
 
 -- level k + 1 adds its digit
 height-suc : (rs : List ℕ) (k : ℕ) (z : ℤ) → Fair rs → index z < product rs → 1 ≤ k → k < 10

@@ -1,5 +1,4 @@
 pub mod Radices
-pub mod Signed
 pub mod Sides
 pub mod Digits
 pub mod Writing

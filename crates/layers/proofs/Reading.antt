@@ -13,7 +13,7 @@ use lib.Seq.{drop-cons, getD-take}
 use borrow.Author.Tests.{leb-true, lt-ltb, le-ltb, le-leb, lt-leb}
 use Rattle.grid.specs.Characters.{digitOf}
 use Rattle.grid.specs.Tree.{Read, ok, bad, guard, shift, next, follow}
-use Rattle.grid.specs.Layers.{product, Stack, all, part, allChild}
+use Rattle.grid.specs.Layers.{product, Stack, part, allChild}
 use Rattle.grid.proofs.Cut.{clash, and-true, cut-end}
 use Rattle.grid.proofs.Laws.{shift-shift}
 use Rattle.layers.specs.declared.Height.{Height}

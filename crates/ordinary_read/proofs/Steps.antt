@@ -10,7 +10,7 @@ use lib.IntN.{ℤ}
 use lib.ListN.{length, getD}
 use borrow.Author.Tests.{lt-ltb, le-ltb, le-leb, leb-true, leb-false}
 use Rattle.grid.specs.declared.Split.{Split}
-use Rattle.grid.specs.Characters.{digitOf, decimalOf}
+use Rattle.grid.specs.Characters.{digitOf, decimalDigit}
 use Rattle.grid.specs.Tree.{Read, ok, bad, guard, shift}
 use Rattle.grid.specs.Splits.{first}
 use Rattle.grid.specs.Answers.{accepted, refused, wrongCharacter}
@@ -183,7 +183,7 @@ module _ (s : Split) (w : List ℕ) (c : Cursor) (h : s .length ≤ length w) (g
       }
 
   -- where no letters are needed, it is read without them
-  pub onward-decimal : (a b : ℕ) (r : Cursor) → Decimal s → a ≡ decimalOf (getD w (c .place) 0) → b ≡ decimalOf (getD w (c .place + 1) 0)
+  pub onward-decimal : (a b : ℕ) (r : Cursor) → Decimal s → a ≡ decimalDigit (getD w (c .place) 0) → b ≡ decimalDigit (getD w (c .place + 1) 0)
       → Child s a b c r → Onward s w c r
   onward-decimal a b r t p q k =
       let u : ℕ = getD w (c .place) 0 in
@@ -191,7 +191,7 @@ module _ (s : Split) (w : List ℕ) (c : Cursor) (h : s .length ≤ length w) (g
       let here : ℕ → ℕ → Read Node = λ column row. guard (s .length - 1) (ltb row (s .rows)) (ok (childAt column row)) in
       onward-pair (digitOf u) (digitOf v) r (λ e. let z : s .characters ≡ 2 = t .two in absurd (omega arith)) refl refl
       (record {
-        read = k .read ∙ rw (p, q) refl ∙ decimal-guard u (c .place) (s .columns) (λ x. here x (decimalOf v)) (t .few-columns)
+        read = k .read ∙ rw (p, q) refl ∙ decimal-guard u (c .place) (s .columns) (λ x. here x (decimalDigit v)) (t .few-columns)
             ∙ ap (guard (c .place) (ltb (digitOf u) (s .columns))) (decimal-guard v (s .length - 1) (s .rows) (λ y. ok (childAt (digitOf u) y)) (t .few-rows));
         reached = k .reached;
       })

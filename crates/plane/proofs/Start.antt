@@ -1,14 +1,14 @@
 -- The first four characters of a plane code: what each test of the reader says of the rule.
 -- Assumes nothing.
 use mathlib.Core.Path.{_≡_, refl, sym, _∙_, ap}
-use mathlib.Core.Bool.{Bool, true, false, cond, _&&_, _||_}
+use mathlib.Core.Bool.{Bool, true, false}
 use mathlib.Core.List.{List, [], _∷_, map}
-use Prim.Native.Nat.{ℕ, zero, suc, _+_, _-_, _*_, _≤_, _<_}
+use Prim.Native.Nat.{ℕ, _+_, _-_, _*_, _≤_, _<_}
 use native.Mathlib.Omega.{arith}
-use lib.Dec.{ltb, leb, eqb}
+use lib.Dec.{ltb}
 use lib.ListN.{length, take, getD}
 use borrow.Author.Tests.{ltb-true, ltb-false, lt-ltb, le-ltb, le-leb, lt-leb, eq-eqb, ne-eqb}
-use Rattle.grid.specs.Characters.{charOf, digitOf, decimalOf}
+use Rattle.grid.specs.Characters.{charOf, digitOf, decimalDigit}
 use Rattle.grid.specs.Tree.{Read, ok, bad}
 use Rattle.grid.specs.Plane.{Node, pole, sheet, letter, globeChild}
 use Rattle.grid.proofs.Characters.{digit-char, char-digit, decimal-below, decimal-above}
@@ -66,11 +66,11 @@ four (a ∷ b ∷ c ∷ []) h = absurd (omega arith)
 four (a ∷ b ∷ c ∷ d ∷ l) h = refl
 
 -- the zone is read without letters
-zoned-decimal : (n : Bool) (x y d : ℕ) → zonedRead n (decimalOf x) (decimalOf y) d ≡ zonedRead n (digitOf x) (digitOf y) d
+zoned-decimal : (n : Bool) (x y d : ℕ) → zonedRead n (decimalDigit x) (decimalDigit y) d ≡ zonedRead n (digitOf x) (digitOf y) d
 unfolding zonedRead
 zoned-decimal n x y d = go (ltb (digitOf x) 10) refl (ltb (digitOf y) 10) refl
   where
-    go : (p : Bool) → ltb (digitOf x) 10 ≡ p → (q : Bool) → ltb (digitOf y) 10 ≡ q → zonedRead n (decimalOf x) (decimalOf y) d ≡ zonedRead n (digitOf x) (digitOf y) d
+    go : (p : Bool) → ltb (digitOf x) 10 ≡ p → (q : Bool) → ltb (digitOf y) 10 ≡ q → zonedRead n (decimalDigit x) (decimalDigit y) d ≡ zonedRead n (digitOf x) (digitOf y) d
     go true e true f = rw (decimal-below x (ltb-true _ _ e), decimal-below y (ltb-true _ _ f)) refl
     go true e false f =
         let k : 10 ≤ digitOf y = ltb-false _ _ f in
@@ -98,7 +98,7 @@ module _ (l : List ℕ) (h : 4 ≤ length l) where
   starts-neither e f =
       rw (four l h, ne-eqb (digitOf (getD l 0 0)) 23 (letter-is-not _ 23 (omega arith) e), ne-eqb (digitOf (getD l 0 0)) 28 (letter-is-not _ 28 (omega arith) f)) refl
 
-  module _ {b c d : ℕ} (eb : b ≡ decimalOf (getD l 1 0)) (ec : c ≡ decimalOf (getD l 2 0)) (ed : d ≡ digitOf (getD l 3 0)) where
+  module _ {b c d : ℕ} (eb : b ≡ decimalDigit (getD l 1 0)) (ec : c ≡ decimalDigit (getD l 2 0)) (ed : d ≡ digitOf (getD l 3 0)) where
     starts : (n : Bool) {r : Read Node} → digitOf (getD l 0 0) ≡ letter n → r ≡ zonedRead n b c d → r ≡ globeChild (take 4 (map digitOf l))
     starts n e q =
         let z : zonedRead n b c d ≡ zonedRead n (digitOf (getD l 1 0)) (digitOf (getD l 2 0)) (digitOf (getD l 3 0)) = rw (eb, ec, ed) (zoned-decimal n (getD l 1 0) (getD l 2 0) (digitOf (getD l 3 0))) in

@@ -22,13 +22,19 @@ abbrev pub levelNumber : ℤ → ℕ
 levelNumber (pos n) = cond (leb n 10) n 0
 levelNumber (negsuc n) = 0
 
+-- refusal 1, else what is to be written at the level
+abbrev pub atLevel : ℤ → (ℕ → Text) → Text
+atLevel level f = unless (ltb 0 (levelNumber level)) 1 (f (levelNumber level))
+
+-- refusals 2 and 3 in that order, else what is to be written for the square
+abbrev pub atPosition : ℤ → ℤ → (Square → Text) → Text
+atPosition longitude latitude f =
+    unless (ltb (index longitude) HALF) 2
+    (unless (ltb (index latitude) QUARTER) 3 (f (record { longitude = longitude; latitude = latitude })))
+
 -- refusals 1, 2 and 3 in that order, else the plane code
 unfoldable pub planeText : ℤ → ℤ → ℤ → Text
-planeText level longitude latitude =
-    unless (ltb 0 (levelNumber level)) 1
-    (unless (ltb (index longitude) HALF) 2
-    (unless (ltb (index latitude) QUARTER) 3
-    (text (codeOf (levelNumber level) (record { longitude = longitude; latitude = latitude })))))
+planeText level longitude latitude = atLevel level (λ l. atPosition longitude latitude (λ s. text (codeOf l s)))
 
 -- what was asked for, as a text
 abbrev pub askedText : Asked → Text
@@ -60,6 +66,7 @@ Same level longitude latitude (At l p) =
     (l ≡ levelNumber level) × (squareOf p ≡ record { longitude = longitude; latitude = latitude })
 Same level longitude latitude (Refused r) = Unit {0}
 
+-- the number that was found, or 0
 abbrev pub orZero : Option ℕ → ℕ
 orZero none = 0
 orZero (some l) = l

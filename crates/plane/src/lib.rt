@@ -3,7 +3,7 @@
 
 ghost use mathlib.Core.Path.{_≡_};
 ghost use Prim.Native.Nat.{_+_, _-_, _*_, _≤_, _<_};
-ghost use lib.ListN.{length, getD, take};
+ghost use lib.ListN.{length, take};
 ghost use Rattle.grid.specs.Splits.{splitAt};
 ghost use Rattle.grid.specs.Units.{index, squareOf};
 ghost use Rattle.grid.specs.Characters.{digitOf};
@@ -166,7 +166,7 @@ fn placed(longitude: i64, latitude: i64, x: u64, y: u64) -> Place
 }
 
 // The level, or 0 where it is outside 1 to 10.
-pub fn level_in(level: i64) -> u32
+fn level_in(level: i64) -> u32
     ensures { λ r. ⌜ r ≡ levelNumber level ⌝ }
 {
     let n = outward(level);

@@ -17,7 +17,7 @@ use Rattle.grid.specs.Answers.{Answer, refused, wrongLength, wrongCharacter}
 use Rattle.grid.specs.Codes.{placeIn, answer, answerAt, readIn}
 use Rattle.grid.specs.Splits.{splits, splitAt}
 use Rattle.grid.specs.Plane.{Node, globe, plane, planeCodes, cellOf}
-use Rattle.grid.specs.Layers.{radices, product, Stack, all, part, layers}
+use Rattle.grid.specs.Layers.{radices, Stack, all, layers}
 use Rattle.grid.specs.Space.{space, spaceCodes, spaceCellOf, spaceLengths}
 use Rattle.grid.proofs.Cut.{below}
 use Rattle.grid.proofs.Laws.{total, follow-ends}

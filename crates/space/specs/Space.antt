@@ -2,7 +2,7 @@
 -- Assumes nothing.
 use mathlib.Core.Bool.{true, false, cond}
 use mathlib.Core.List.{List, [], _∷_, map}
-use Prim.Native.Nat.{ℕ, zero, suc, _+_, _-_, _*_, _≤_, _<_, min}
+use Prim.Native.Nat.{ℕ, zero, suc, _-_, _≤_, _<_, min}
 use lib.Dec.{ltb}
 use lib.IntN.{ℤ}
 use lib.ListN.{length, getD}
@@ -18,7 +18,7 @@ use Rattle.grid.specs.Answers.{Answer, accepted, refused, wrongCharacter}
 use Rattle.grid.specs.Laying.{Text, refuse, text, unless}
 use Rattle.grid.specs.Layers.{radices, product, Stack, floorOf, thicknessOf}
 use Rattle.grid.specs.Space.{spaceCodeOf, spaceLengths}
-use Rattle.plane.specs.Text.{levelNumber, orZero}
+use Rattle.plane.specs.Text.{atLevel, atPosition, orZero}
 use Rattle.layers.specs.declared.LayersRead.{LayersRead}
 use Rattle.layers.specs.declared.LayersRead.the-variants as layers
 use Rattle.layers.specs.Heights.{layerOf}
@@ -34,11 +34,7 @@ layeredText l s layer = unless (ltb (index layer) LAYERS) 4 (text (spaceCodeOf l
 
 -- refusals 1, 2 and 3 in that order, else what the layer decides
 unfoldable pub spaceText : ℤ → ℤ → ℤ → ℤ → Text
-spaceText level longitude latitude layer =
-    unless (ltb 0 (levelNumber level)) 1
-    (unless (ltb (index longitude) HALF) 2
-    (unless (ltb (index latitude) QUARTER) 3
-    (layeredText (levelNumber level) (record { longitude = longitude; latitude = latitude }) layer)))
+spaceText level longitude latitude layer = atLevel level (λ l. atPosition longitude latitude (λ s. layeredText l s layer))
 
 -- what was asked for, as a text
 abbrev pub askedSpaceText : AskedSpace → Text
@@ -59,6 +55,7 @@ pub record Room (l : ℕ) (line : List ℕ) : Type 0 where
   pub level-high : l ≤ 10
   pub room : getD spaceLengths (l - 1) 0 ≤ length line
 
+-- what is to be written fits
 abbrev pub FittingSpace : AskedSpace → Type 0
 FittingSpace (At l p above rise) = Fits l p rise
 FittingSpace (Unmet r) = Unit {0}
@@ -72,10 +69,12 @@ spaceRead (Refused r) = refused r
 unfoldable pub spaceLevelOf : ℕ → ℕ
 spaceLevelOf n = orZero (placeIn n 1 spaceLengths)
 
+-- a level after the first: its plane characters, then one height character
 abbrev pub laterStrands : List Split → List Strand
 laterStrands [] = []
 laterStrands (t ∷ ts) = record { lead = false; one = t .characters; two = 1 } ∷ laterStrands ts
 
+-- the first level: N or S and the sign in front, then the zone and the row, then two more height characters
 abbrev pub strandsOf : List Split → List Strand
 strandsOf [] = []
 strandsOf (t ∷ ts) = record { lead = true; one = t .characters; two = 3 } ∷ laterStrands ts

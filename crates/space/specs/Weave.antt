@@ -49,18 +49,20 @@ placeOne = placeIn (λ t. t .one) (λ t. firstPlace (t .lead))
 abbrev pub placeTwo : List Strand → ℕ → ℕ
 placeTwo = placeIn (λ t. t .two) (λ t. secondPlace (t .lead) (t .one))
 
--- each digit of a part, from its digit k on, stored at its place in what is woven
-abbrev pub spread : (ℕ → ℕ) → ℕ → List ℕ → List ℕ → List ℕ
-spread place k [] l = l
-spread place k (c ∷ w) l = spread place (suc k) w (set l (place k) c)
-
--- a digit stored at a place, if there is one
-abbrev pub stored : Bool → ℕ → ℕ → List ℕ → List ℕ
-stored some at c l = cond some (set l at c) l
-
 -- both were read; or the first bad digit of either, at its place in what was woven
 abbrev pub together : {A B : Type 0} → List Strand → Read A → Read B → Read (A × B)
 together ts (ok a) (ok b) = ok (a, b)
 together ts (ok a) (bad q) = bad (placeTwo ts q)
 together ts (bad p) (ok b) = bad (placeOne ts p)
 together ts (bad p) (bad q) = bad (min (placeOne ts p) (placeTwo ts q))
+
+-- ---- laid into a line
+
+-- each digit of a part, from its digit k on, stored at its place in what is woven
+abbrev pub spread : (ℕ → ℕ) → ℕ → List ℕ → List ℕ → List ℕ
+spread place k [] l = l
+spread place k (c ∷ w) l = spread place (suc k) w (set l (place k) c)
+
+-- a digit stored at a place, where the code has it
+abbrev pub stored : Bool → ℕ → ℕ → List ℕ → List ℕ
+stored some at c l = cond some (set l at c) l

@@ -2,12 +2,11 @@
 // A space code is woven of its plane code and its height characters: both are built apart, and then laid into the line; a reader takes them apart.
 
 ghost use mathlib.Core.Path.{_≡_};
-ghost use mathlib.Core.Bool.{true};
 ghost use mathlib.Core.List.{map};
 ghost use Prim.Native.Nat.{_+_, _-_, _≤_, _<_, min};
 ghost use lib.ListN.{length, getD, take};
 ghost use lib.Seq.{sets};
-ghost use Rattle.grid.specs.Answers.{accepted, refused, wrongCharacter, planeRead};
+ghost use Rattle.grid.specs.Answers.{refused, wrongCharacter, planeRead};
 ghost use Rattle.grid.specs.Laying.{text, laid, written};
 ghost use Rattle.grid.specs.Space.{spaceCodeOf, spaceCellOf, spaceLengths};
 ghost use Rattle.grid.specs.Units.{squareOf};

@@ -1,5 +1,4 @@
 -- `hailgully::box_refused` meets its contract. Assumes nothing.
-use mathlib.Core.Path.{_≡_, _∙_, ap, subst, sym}
 use Rattle.hailgully.proofs.Boxes.{box-is}
 use borrow.Author.Needs.{needs}
 use Rattle.hailgully.proofs.box_refused.Statement.{statement}

@@ -1,9 +1,9 @@
 -- `plane::ask` meets its contract. Assumes nothing.
-use mathlib.Core.Path.{_≡_, _∙_, ap, subst}
-use Prim.Native.Nat.{ℕ, _≤_}
+use mathlib.Core.Path.{_≡_, _∙_, ap}
+use Prim.Native.Nat.{_≤_}
 use native.Mathlib.Omega.{arith}
 use mir.Facts.{toZ-ofZ}
-use Rattle.grid.specs.Units.{side, index}
+use Rattle.grid.specs.Units.{index}
 use Rattle.grid.specs.Laying as laying
 use Rattle.plane.specs.Text.{levelNumber, Placed}
 use Rattle.plane.proofs.Asking.{asked-level, asked-longitude, asked-latitude, asked-at, level-most}

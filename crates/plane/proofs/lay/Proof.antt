@@ -1,6 +1,5 @@
 -- `plane::lay` meets its contract. Assumes nothing.
 use mathlib.Core.Path.{refl, _∙_, sym}
-use native.Mathlib.Omega.{arith}
 use Prim.Native.Nat.{_<_}
 use Rattle.grid.specs.Units.{squareOf}
 use Rattle.grid.proofs.Laying.{laid-past-by, laid-short-by, laid-lent}

@@ -1,5 +1,4 @@
 -- `plane::length_of` meets its contract. Assumes nothing.
-use native.Mathlib.Omega.{arith}
 use Rattle.plane.proofs.Lengths.{length-at, past, just}
 use borrow.Author.Needs.{needs}
 use Rattle.plane.proofs.length_of.Statement.{statement}

@@ -1,6 +1,5 @@
 -- `plane::read` meets its contract. Assumes nothing.
-use mathlib.Core.Path.{_≡_, refl, sym, _∙_, ap, subst}
-use native.Mathlib.Omega.{arith}
+use mathlib.Core.Path.{sym, _∙_, ap, subst}
 use lib.ListN.{length}
 use Rattle.grid.specs.Answers as answers
 use Rattle.plane.specs.Start.{firstRead, Ranged}

@@ -1,7 +1,7 @@
 -- `reference::outward` meets its contract. Assumes nothing.
 use mathlib.Core.Path.{ap}
 use lib.IntN.{natAbs}
-use Rattle.plane.proofs.Signed.{casts, flipped-fits, flipped-back, kept}
+use Rattle.grid.proofs.Signed.{casts, flipped-fits, flipped-back, kept}
 use Rattle.reference.proofs.outward.Statement.{statement}
 use Rattle.reference.proofs.outward.Tie as tie
 
