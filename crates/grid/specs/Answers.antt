@@ -6,6 +6,7 @@ use Rattle.grid.specs.declared.Cell.{Cell}
 use Rattle.grid.specs.declared.PlaneRead.{PlaneRead}
 use Rattle.grid.specs.declared.PlaneRead.the-variants.{Found, Refused}
 
+-- what a reader or a writer answers: a result, or one refusal
 pub data Answer (C : Type 0) : Type 0 where
   accepted : C → Answer C
   refused : Refusal → Answer C

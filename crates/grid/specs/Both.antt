@@ -7,6 +7,7 @@ use Prim.Native.Nat.{ℕ, zero, suc, _+_, _-_, min}
 use lib.ListN.{take, drop}
 use Rattle.grid.specs.Tree.{Tree, Read, ok, bad}
 
+-- the digits of the one, then those of the other; at a level that leads, the first of each in front
 abbrev pub mix : Bool → List ℕ → List ℕ → List ℕ
 mix false a b = a ++ b
 mix true [] b = b
@@ -20,6 +21,7 @@ firstOf true k [] = []
 firstOf true k (x ∷ []) = x ∷ []
 firstOf true k (x ∷ y ∷ w) = x ∷ take (k - 1) w
 
+-- and those of the other
 abbrev pub secondOf : Bool → ℕ → List ℕ → List ℕ
 secondOf false k w = drop k w
 secondOf true k [] = []
@@ -32,6 +34,7 @@ firstPlace false p = p
 firstPlace true zero = 0
 firstPlace true (suc p) = suc (suc p)
 
+-- of the other, after the k of the one
 abbrev pub secondPlace : Bool → ℕ → ℕ → ℕ
 secondPlace false k p = k + p
 secondPlace true k zero = 1
@@ -44,11 +47,13 @@ joined lead k (ok a) (bad q) = bad (secondPlace lead k q)
 joined lead k (bad p) (ok b) = bad (firstPlace lead p)
 joined lead k (bad p) (bad q) = bad (min (firstPlace lead p) (secondPlace lead k q))
 
+-- a level of each, and whether their first digits lead
 pub record Pair (A B : Tree) : Type 0 where
   pub lead : Bool
   pub one : A .Level
   pub two : B .Level
 
+-- a node, a point and a child of each
 abbrev pub both : Tree → Tree → Tree
 both A B =
     record {

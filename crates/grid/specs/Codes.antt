@@ -10,6 +10,7 @@ use Rattle.grid.specs.Tree.{Tree, Read, ok, bad, code, follow}
 use Rattle.grid.specs.Characters.{charOf, digitOf}
 use Rattle.grid.specs.Answers.{Answer, accepted, refused, wrongLength, wrongCharacter}
 
+-- a family of codes: its tree, its levels from the root on, how long its codes are, and what a reader hands back
 pub record Codes : Type 1 where
   pub tree : Tree
   pub levels : List (tree .Level)
@@ -27,10 +28,12 @@ abbrev pub placeIn : ℕ → ℕ → List ℕ → Option ℕ
 placeIn n k [] = none
 placeIn n k (x ∷ xs) = cond (eqb n x) (some k) (placeIn n (suc k) xs)
 
+-- what was read in a code of level l, as an answer: the cell, or 7
 abbrev pub answer : (K : Codes) → ℕ → Read (K .tree .Node) → Answer (K .Cell)
 answer K l (ok n) = accepted (K .cellAt l n)
 answer K l (bad p) = refused (wrongCharacter p)
 
+-- 6 where no level has the length, else what the level's digits lead to
 abbrev pub answerAt : (K : Codes) → List ℕ → Option ℕ → Answer (K .Cell)
 answerAt K w none = refused wrongLength
 answerAt K w (some l) = answer K l (follow (K .tree) (take l (K .levels)) (K .root) (map digitOf w))

@@ -37,6 +37,7 @@ abbrev pub stackDigits : ℕ → ℕ → Stack → ℤ → List ℕ
 stackDigits top r all z = sign (side z) ∷ (rise top z / (top / r) / 10) ∷ (rise top z / (top / r) % 10) ∷ []
 stackDigits top r (part a low n) z = ((rise top z - low) / (n / r)) ∷ []
 
+-- the layers that the sign and two decimal digits lead to: a sign 0 or 1, and a number below the radix
 abbrev pub allChild : ℕ → ℕ → List ℕ → Read Stack
 allChild top r [] = bad 0
 allChild top r (s ∷ []) = bad 0
@@ -47,11 +48,13 @@ allChild top r (s ∷ a ∷ b ∷ []) =
     (guard 2 (leb b 9 && ltb (10 * a + b) r) (ok (part (eqb s 0) ((10 * a + b) * (top / r)) (top / r)))))
 allChild top r (s ∷ a ∷ b ∷ x ∷ w) = bad 0
 
+-- the layers that one digit below the radix leads to
 abbrev pub partChild : ℕ → Bool → ℕ → ℕ → List ℕ → Read Stack
 partChild r a low n [] = bad 0
 partChild r a low n (v ∷ []) = guard 0 (ltb v r) (ok (part a (low + v * (n / r)) (n / r)))
 partChild r a low n (v ∷ x ∷ w) = bad 0
 
+-- the layers that a level's digits lead to
 abbrev pub stackChild : ℕ → ℕ → Stack → List ℕ → Read Stack
 stackChild top r all w = allChild top r w
 stackChild top r (part a low n) w = partChild r a low n w
@@ -61,6 +64,7 @@ pub record Radix : Type 0 where
   pub characters : ℕ
   pub radix : ℕ
 
+-- the tree of layers, of which there are `top` above ground and as many below
 abbrev pub layers : ℕ → Tree
 layers top =
     record {
@@ -78,6 +82,7 @@ floorOf top all = negsuc (top - 1)
 floorOf top (part true low n) = pos low
 floorOf top (part false low n) = negsuc (top - 1 - low)
 
+-- how many layers a stack has
 abbrev pub thicknessOf : ℕ → Stack → ℕ
 thicknessOf top all = 2 * top
 thicknessOf top (part a low n) = n

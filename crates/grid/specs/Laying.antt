@@ -24,6 +24,7 @@ unless false n t = refuse (refusal n 0)
 abbrev pub noRoom : Refusal
 noRoom = refusal 5 0
 
+-- the bytes w laid into the line from a place on, if there is room: 5 where there is not
 abbrev pub laidIf : Bool → List ℕ → List ℕ → ℕ → Answer ℕ × List ℕ
 laidIf true w line at = (accepted (length w), take at line ++ w ++ drop (at + length w) line)
 laidIf false w line at = (refused noRoom, line)

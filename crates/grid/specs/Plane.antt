@@ -30,6 +30,7 @@ xIn (ordinary n e) s = index (s .longitude)
 xIn (belt n e) s = index (s .longitude)
 xIn (disc n) s = eastward (s .longitude)
 
+-- northward or southward from the equator, or from the pole
 abbrev pub yIn : Frame → Square → ℕ
 yIn (ordinary n e) s = index (s .latitude)
 yIn (belt n e) s = index (s .latitude)
@@ -55,6 +56,7 @@ pub data Node : Type 0 where
 pub data Form : Type 0 where
   pair quad trio : Form
 
+-- the form of a level, by how many characters and columns it has
 abbrev pub formOf : ℕ → ℕ → Form
 formOf characters columns = cond (eqb characters 2) pair (cond (eqb columns 2) quad trio)
 
@@ -124,6 +126,7 @@ ringColumn p (suc r) e = e / p .width
 
 -- ---- the digits of one division
 
+-- a column and a row as digits
 abbrev pub write : Form → ℕ → ℕ → List ℕ
 write pair c r = c ∷ r ∷ []
 write quad c r = (2 * r + c) ∷ []
@@ -146,16 +149,20 @@ readAs trio i p k [] = bad 0
 readAs trio i p k (v ∷ []) = guard 0 (allowed i p (v - 1) (min v 1)) (ok (k (v - 1) (min v 1)))
 readAs trio i p k (v ∷ x ∷ w) = bad 0
 
+-- the digits of the child that has a square
 abbrev pub cellDigits : Part → Frame → Box → Square → List ℕ
 cellDigits p f b s = write (p .form) ((xIn f s - b .x) / p .width) ((yIn f s - b .y) / p .height)
 
+-- the child that digits lead to
 abbrev pub cellChild : Part → Frame → Box → List ℕ → Read Node
 cellChild p f b w = readAs (p .form) false p (λ c r. cell f (sub p b c r)) w
 
+-- the same for a cap, whose columns count eastward and whose rows count from the pole
 abbrev pub capDigits : Part → Square → List ℕ
 capDigits p s =
     write (p .form) (ringColumn p (fromPole (s .latitude) / p .height) (eastward (s .longitude))) (fromPole (s .latitude) / p .height)
 
+-- the child of a cap
 abbrev pub capChild : Part → Bool → ℕ → List ℕ → Read Node
 capChild p n h w = readAs (p .form) true p (λ c r. ringNode n p h c r) w
 
@@ -188,6 +195,7 @@ sheet n z r =
     (cell (ordinary n false)
     (record { x = (30 - z) * first .width; w = first .width; y = r * first .height; h = first .height }))
 
+-- the sheet, or N000 or S000, that four digits lead to: a zone 1 to 60 and a letter A to V, or 000
 abbrev pub globeChild : List ℕ → Read Node
 globeChild [] = bad 0
 globeChild (a ∷ []) = bad 0
@@ -208,6 +216,7 @@ globeChild (a ∷ b ∷ c ∷ d ∷ x ∷ w) = bad 0
 abbrev pub poleWidth : ℕ
 poleWidth = TURN / first .ring
 
+-- from 88° to the pole
 abbrev pub poleHeight : ℕ
 poleHeight = 2 * DEGREE / first .inward
 
@@ -238,6 +247,7 @@ firstFrom f k (suc n) = cond (f k) k (firstFrom f (suc k) n)
 unfoldable pub polarCellOf : Square → ℕ
 polarCellOf s = firstFrom (polarHolds s) 0 16
 
+-- the two digits of the polar cell that has a square
 abbrev pub poleDigits : Square → List ℕ
 poleDigits s = (polarCellOf s / 4) ∷ (polarCellOf s % 4) ∷ []
 
@@ -257,6 +267,7 @@ polarNode n k =
     (cell (disc n) (discBox (polarCellAt k .west) (polarWidth k) (polarCellAt k .low)))
     (cell (belt n (ltb (polarCellAt k .west) HALF)) (beltBox (polarCellAt k .west) (polarCellAt k .low))))
 
+-- the polar cell that two digits below 4 lead to
 abbrev pub poleChild : Bool → List ℕ → Read Node
 poleChild n [] = bad 0
 poleChild n (a ∷ []) = bad 0
@@ -265,18 +276,21 @@ poleChild n (a ∷ b ∷ x ∷ w) = bad 0
 
 -- ---- the tree
 
+-- the digits that lead from a node to its child that has a square
 abbrev pub digitsOf : Split → Node → Square → List ℕ
 digitsOf t globe s = globeDigits s
 digitsOf t (pole n) s = poleDigits s
 digitsOf t (cell f b) s = cellDigits (partOf t (nearPole f) (b .w) (b .h)) f b s
 digitsOf t (cap n h) s = capDigits (capPart t h) s
 
+-- the child of a node that digits lead to
 abbrev pub childOf : Split → Node → List ℕ → Read Node
 childOf t globe w = globeChild w
 childOf t (pole n) w = poleChild n w
 childOf t (cell f b) w = cellChild (partOf t (nearPole f) (b .w) (b .h)) f b w
 childOf t (cap n h) w = capChild (capPart t h) n h w
 
+-- the tree of plane cells
 abbrev pub plane : Tree
 plane =
     record { Level = Split; Node = Node; Point = Square; size = λ t. t .characters; digits = digitsOf; child = childOf }
@@ -297,6 +311,7 @@ abbrev pub leastFromPole : Bool → ℕ → ℕ → ℤ
 leastFromPole true q n = pos (QUARTER - (q + n))
 leastFromPole false q n = negsuc (QUARTER - 1 - q)
 
+-- a cell by its five numbers
 abbrev pub cellFrom : ℕ → ℤ → ℤ → ℕ → ℕ → Cell
 cellFrom l west south w h = record { level = l; west = west; south = south; width = w; height = h }
 
@@ -311,6 +326,7 @@ cellAt l (cap n h) = cellFrom l (pos 0) (leastFromPole n 0 h) TURN h
 
 -- ---- plane codes
 
+-- plane codes: the ten levels of the table, from the globe on
 unfoldable pub planeCodes : Codes
 planeCodes =
     record { tree = plane; levels = splits; root = globe; lengths = map (λ t. t .length) splits; Cell = Cell; cellAt = cellAt }

@@ -14,6 +14,7 @@ use Rattle.grid.specs.Plane.{Node, globe, plane, cellAt}
 use Rattle.grid.specs.Layers.{radices, product, Stack, all, layers, floorOf, thicknessOf}
 use Rattle.grid.specs.Both.{Pair, both}
 
+-- plane cells and layers, side by side
 abbrev pub space : ℕ → Tree
 space top = both plane (layers top)
 
@@ -35,9 +36,11 @@ spaceLevels top (t ∷ ts) (r ∷ rs) =
 abbrev pub spaceCellAt : ℕ → ℕ → Node × Stack → SpaceCell
 spaceCellAt top l n = record { cell = cellAt l (n .0); floor = floorOf top (n .1); thickness = thicknessOf top (n .1) }
 
+-- the lengths of space codes, level by level
 abbrev pub spaceLengths : List ℕ
 spaceLengths = 7 ∷ 10 ∷ 12 ∷ 15 ∷ 18 ∷ 20 ∷ 23 ∷ 26 ∷ 29 ∷ 32 ∷ []
 
+-- space codes over a list of radices
 unfoldable pub spaceCodes : List ℕ → Codes
 spaceCodes rs =
     record {

@@ -68,5 +68,6 @@ polarCells =
     ∷ begins 1769472000 652492800
     ∷ []
 
+-- the polar cell with the digits a and b, k being 4a + b
 abbrev pub polarCellAt : ℕ → PolarCell
 polarCellAt k = getD polarCells k (begins 0 0)

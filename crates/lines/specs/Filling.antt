@@ -18,6 +18,7 @@ KEPT = 21
 abbrev pub ROOM : ℕ
 ROOM = 128
 
+-- the next byte, the bytes held and the bytes written
 abbrev pub marks : ℕ → ℕ → ℕ → Marks
 marks n h a = record { next = n; held = h; at = a }
 
@@ -27,6 +28,7 @@ pub record Work : Type 0 where
   pub line : List ℕ
   pub out : List ℕ
 
+-- marks and buffers together
 abbrev pub work : Marks → List ℕ → List ℕ → Work
 work m line out = record { marked = m; line = line; out = out }
 

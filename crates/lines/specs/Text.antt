@@ -40,6 +40,7 @@ signedOf (negsuc n) = MINUS ∷ decimalOf (n + 1)
 abbrev pub numberText : ℕ → ℕ → List ℕ
 numberText n end = decimalOf n ++ (end ∷ [])
 
+-- a signed number and the byte after it
 abbrev pub signedText : ℤ → ℕ → List ℕ
 signedText z end = signedOf z ++ (end ∷ [])
 

@@ -31,6 +31,7 @@ pub record Later (k : ℕ) (s : Split) : Type 0 where
 abbrev pub columnIn : Split → ℕ → ℕ
 columnIn s x = x / s .width % s .columns
 
+-- the row of the level s that has an index
 abbrev pub rowIn : Split → ℕ → ℕ
 rowIn s y = y / s .height % s .rows
 

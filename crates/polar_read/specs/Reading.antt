@@ -42,6 +42,7 @@ use Rattle.polar_read.specs.declared.Cursor.{Cursor}
 abbrev pub frameOf : Cursor → Frame
 frameOf c = cond (c .disc) (disc (c .north)) (belt (c .north) (c .east))
 
+-- from where its cell begins, as large as it is
 abbrev pub boxOf : Cursor → Box
 boxOf c = record { x = c .x; w = c .w; y = c .y; h = c .h }
 

@@ -20,9 +20,11 @@ abbrev pub bytes : String → List ℕ
 bytes String.[] = []
 bytes (String._∷_ c t) = code c ∷ bytes t
 
+-- a number below 0
 abbrev pub - : ℕ → ℤ
 - n = negℤ (pos n)
 
+-- a case: what is asked, and what document 01 says
 pub data Case : Type 0 where
   -- level, longitude, latitude: the plane code
   writes : ℤ → ℤ → ℤ → String → Case
@@ -69,6 +71,7 @@ said (relates b t s) = texts (text (bytes s))
 said (outside l u v n) = texts (refuse (refusal n 0))
 said (stops t n p) = cells (refused (refusal n p))
 
+-- the table
 abbrev pub cases : List Case
 cases =
     -- P1, P2, P3

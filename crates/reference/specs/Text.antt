@@ -35,6 +35,7 @@ fit c = leb 5 (c .level) && ordinary c
 abbrev pub eastSpan : Cell → Cell → ℕ
 eastSpan b t = spanOf (b .width) (b .west) (t .west)
 
+-- N: cells north
 abbrev pub northSpan : Cell → Cell → ℕ
 northSpan b t = spanOf (b .height) (b .south) (t .south)
 

@@ -92,6 +92,7 @@ countFrom k (suc n) = k ∷ countFrom (suc k) n
 abbrev pub planePart : List ℕ → List ℕ
 planePart w = map (λ p. getD w (placeOne tenStrands p) 0) (countFrom 0 20)
 
+-- the height characters
 abbrev pub heightPart : List ℕ → List ℕ
 heightPart w = map (λ p. getD w (placeTwo tenStrands p) 0) (countFrom 0 12)
 
@@ -99,6 +100,7 @@ heightPart w = map (λ p. getD w (placeTwo tenStrands p) 0) (countFrom 0 12)
 unfoldable pub planePlace : ℕ → ℕ
 planePlace p = cond (ltb p 20) (placeOne tenStrands p) 0
 
+-- where a height character stands
 unfoldable pub heightPlace : ℕ → ℕ
 heightPlace p = cond (ltb p 12) (placeTwo tenStrands p) 0
 

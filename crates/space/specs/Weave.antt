@@ -39,6 +39,7 @@ placeIn count place (t ∷ ts) p = cond (ltb p (count t)) (place t p) (both-of t
 abbrev pub firsts : List Strand → List ℕ → List ℕ
 firsts = parts (λ t. firstOf (t .lead) (t .one))
 
+-- the other, out of what was woven
 abbrev pub seconds : List Strand → List ℕ → List ℕ
 seconds = parts (λ t. secondOf (t .lead) (t .one))
 
@@ -46,6 +47,7 @@ seconds = parts (λ t. secondOf (t .lead) (t .one))
 abbrev pub placeOne : List Strand → ℕ → ℕ
 placeOne = placeIn (λ t. t .one) (λ t. firstPlace (t .lead))
 
+-- where a digit of the other stands
 abbrev pub placeTwo : List Strand → ℕ → ℕ
 placeTwo = placeIn (λ t. t .two) (λ t. secondPlace (t .lead) (t .one))
 
