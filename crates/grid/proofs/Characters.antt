@@ -7,7 +7,8 @@ use Prim.Native.Nat.{ℕ, _+_, _-_, _%_, _^_, _≤_, _<_}
 use native.Mathlib.Omega.{arith}
 use lib.Dec.{ltb, leb, eqb}
 use borrow.Author.Tests.{ltb-true, ltb-false, leb-true, eqb-true, lt-ltb, le-ltb, le-leb, lt-leb}
-use Rattle.grid.specs.Characters.{charOf, digitOf, decimalDigit}
+use Rattle.grid.specs.Characters.{charOf, digitOf}
+use Rattle.grid.specs.inner.Roads.{decimalDigit}
 use Rattle.grid.specs.Tree.{Read, guard}
 use Rattle.grid.proofs.Cut.{and-true, below, Below}
 

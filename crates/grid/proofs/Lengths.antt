@@ -13,7 +13,8 @@ use Rattle.grid.specs.Units.{Square, OnGlobe}
 use Rattle.grid.specs.Characters.{charOf}
 use Rattle.grid.specs.Tree.{code}
 use Rattle.grid.specs.Codes.{placeIn, codeIn}
-use Rattle.grid.specs.Splits.{splits, splitAt, placeOf}
+use Rattle.grid.specs.Splits.{splits, splitAt}
+use Rattle.grid.specs.inner.Roads.{placeOf}
 use Rattle.grid.specs.Plane.{globe, plane, planeCodes, codeOf}
 use Rattle.grid.proofs.Cut.{and-true, allBelow, below}
 use Rattle.grid.proofs.Laws.{total, length-code}

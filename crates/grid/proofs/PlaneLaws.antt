@@ -12,7 +12,8 @@ use lib.ListN.{length, take}
 use borrow.Author.Tests.{ltb-true, leb-true, eqb-true, ltb-false, eqb-false}
 use Rattle.grid.specs.declared.Split.{Split}
 use Rattle.grid.specs.declared.Place.{Place}
-use Rattle.grid.specs.Units.{TURN, HALF, QUARTER, POLAR, side, index, unit, eastward, Square, squareOf, OnGlobe}
+use Rattle.grid.specs.Units.{TURN, HALF, QUARTER, POLAR, side, index, unit, eastward, Square, OnGlobe}
+use Rattle.grid.specs.inner.Roads.{squareOf}
 use Rattle.grid.specs.Tree.{ok, bad}
 use Rattle.grid.specs.Splits.{splits, polarCellAt}
 use Rattle.grid.specs.Plane.{

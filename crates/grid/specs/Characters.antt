@@ -11,7 +11,3 @@ charOf v = cond (ltb v 10) (48 + v) (55 + v)
 -- a byte's digit; 32 where it is no code character
 unfoldable pub digitOf : ℕ → ℕ
 digitOf b = cond (leb 48 b && leb b 57) (b - 48) (cond (leb 65 b && leb b 86) (b - 55) 32)
-
--- a byte's digit where it is one of 0 to 9; 32 where it is not
-unfoldable pub decimalDigit : ℕ → ℕ
-decimalDigit b = cond (ltb (digitOf b) 10) (digitOf b) 32

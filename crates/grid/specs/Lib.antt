@@ -11,3 +11,4 @@ pub mod Both
 pub mod Space
 pub mod Laying
 pub mod Demands
+pub mod inner

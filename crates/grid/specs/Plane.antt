@@ -222,7 +222,7 @@ poleHeight = 2 * DEGREE / first .inward
 
 -- 60°, the width of a belt cell
 abbrev pub SIXTH : ℕ
-SIXTH = 442368000
+SIXTH = 60 * DEGREE
 
 -- the cap goes all round, the disc's other three cells are 120° wide, and the belt's twelve 60°
 abbrev pub polarWidth : ℕ → ℕ
@@ -340,8 +340,3 @@ codeOf l s = codeIn planeCodes l s
 unfoldable pub cellOf : List ℕ → Answer Cell
 unfolding planeCodes
 cellOf w = readIn planeCodes w
-
--- what reading on from a cell of level 1 answers: the rest of the code w of level l, after its first four characters
-unfoldable pub restOf : ℕ → Node → List ℕ → Answer Cell
-unfolding planeCodes
-restOf l n w = answer planeCodes l (shift 4 (follow plane (drop 1 (take l splits)) n (map digitOf (drop 4 w))))

@@ -1,10 +1,11 @@
 -- The two constant tables, as src/lib.rt has them: the splits of the ten levels, and where the sixteen polar cells of level 2 begin.
 -- Assumes nothing.
 use mathlib.Core.List.{List, [], _∷_}
-use Prim.Native.Nat.{ℕ, _-_}
+use Prim.Native.Nat.{ℕ, _+_, _-_, _*_}
 use lib.ListN.{getD}
 use Rattle.grid.specs.declared.Split.{Split}
 use Rattle.grid.specs.declared.PolarCell.{PolarCell}
+use Rattle.grid.specs.Units.{MINUTE, DEGREE}
 
 -- columns and rows, unit width and height, characters and length;
 -- then into how many rows a polar cell or a cap divides, and into how many columns a cap's rows but the innermost do
@@ -39,10 +40,6 @@ splits =
 abbrev pub splitAt : ℕ → Split
 splitAt k = getD splits k (split 0 0 0 0 0 0 0 0)
 
--- where a level's characters begin in a code
-abbrev pub placeOf : Split → ℕ
-placeOf t = t .length - t .characters
-
 -- the west edge in eastward units, and the latitude index of the edge farther from the pole
 abbrev pub begins : ℕ → ℕ → PolarCell
 begins w l = record { west = w; low = l }
@@ -50,22 +47,22 @@ begins w l = record { west = w; low = l }
 -- place 4a + b is the cell with the digits a and b
 abbrev pub polarCells : List PolarCell
 polarCells =
-    begins 0 659865600
-    ∷ begins 0 656179200
-    ∷ begins 884736000 656179200
-    ∷ begins 1769472000 656179200
-    ∷ begins 0 648806400
-    ∷ begins 442368000 648806400
-    ∷ begins 0 652492800
-    ∷ begins 442368000 652492800
-    ∷ begins 884736000 648806400
-    ∷ begins 1327104000 648806400
-    ∷ begins 884736000 652492800
-    ∷ begins 1327104000 652492800
-    ∷ begins 2211840000 648806400
-    ∷ begins 1769472000 648806400
-    ∷ begins 2211840000 652492800
-    ∷ begins 1769472000 652492800
+    begins (0 * DEGREE) (89 * DEGREE + 30 * MINUTE)
+    ∷ begins (0 * DEGREE) (89 * DEGREE)
+    ∷ begins (120 * DEGREE) (89 * DEGREE)
+    ∷ begins (240 * DEGREE) (89 * DEGREE)
+    ∷ begins (0 * DEGREE) (88 * DEGREE)
+    ∷ begins (60 * DEGREE) (88 * DEGREE)
+    ∷ begins (0 * DEGREE) (88 * DEGREE + 30 * MINUTE)
+    ∷ begins (60 * DEGREE) (88 * DEGREE + 30 * MINUTE)
+    ∷ begins (120 * DEGREE) (88 * DEGREE)
+    ∷ begins (180 * DEGREE) (88 * DEGREE)
+    ∷ begins (120 * DEGREE) (88 * DEGREE + 30 * MINUTE)
+    ∷ begins (180 * DEGREE) (88 * DEGREE + 30 * MINUTE)
+    ∷ begins (300 * DEGREE) (88 * DEGREE)
+    ∷ begins (240 * DEGREE) (88 * DEGREE)
+    ∷ begins (300 * DEGREE) (88 * DEGREE + 30 * MINUTE)
+    ∷ begins (240 * DEGREE) (88 * DEGREE + 30 * MINUTE)
     ∷ []
 
 -- the polar cell with the digits a and b, k being 4a + b

@@ -1,30 +1,34 @@
 -- Units, ranges and the unit square. A unit is 1/2048 arc-second; a position names a unit square by its west and south corner.
 -- Assumes nothing.
 use mathlib.Core.Bool.{Bool, true, false}
-use Prim.Native.Nat.{ℕ, _-_, _<_}
+use Prim.Native.Nat.{ℕ, _-_, _*_, _<_}
 use lib.IntN.{ℤ, pos, negsuc}
 use Rattle.grid.specs.declared.Place.{Place}
 
+-- one minute: 60 arc-seconds of 2048 units
+abbrev pub MINUTE : ℕ
+MINUTE = 60 * 2048
+
 -- one degree
 abbrev pub DEGREE : ℕ
-DEGREE = 7372800
+DEGREE = 60 * MINUTE
 
 -- 360°, 180° and 90°
 abbrev pub TURN : ℕ
-TURN = 2654208000
+TURN = 360 * DEGREE
 
 abbrev pub HALF : ℕ
-HALF = 1327104000
+HALF = 180 * DEGREE
 
 abbrev pub QUARTER : ℕ
-QUARTER = 663552000
+QUARTER = 90 * DEGREE
 
 -- 88°, where the ordinary cells end, and 89°, where the belt ends and the disc begins
 abbrev pub POLAR : ℕ
-POLAR = 648806400
+POLAR = 88 * DEGREE
 
 abbrev pub DISC : ℕ
-DISC = 656179200
+DISC = 89 * DEGREE
 
 -- the layers above ground, and as many below
 abbrev pub LAYERS : ℕ
@@ -58,10 +62,6 @@ fromPole v = QUARTER - 1 - index v
 pub record Square : Type 0 where
   pub longitude : ℤ
   pub latitude : ℤ
-
--- the square of a place: its sides and outward indices
-abbrev pub squareOf : Place → Square
-squareOf p = record { longitude = unit (p .east) (p .x); latitude = unit (p .north) (p .y) }
 
 -- both numbers lie in their ranges
 pub record OnGlobe (s : Square) : Type 0 where

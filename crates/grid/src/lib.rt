@@ -6,7 +6,25 @@ ghost use Prim.Native.Nat.{_+_, _≤_, _<_};
 ghost use Rattle.grid.specs.Units.{side, index, unit};
 ghost use Rattle.grid.specs.Plane.{letter, least};
 ghost use Rattle.grid.specs.Splits.{splitAt, polarCellAt};
-ghost use Rattle.grid.specs.Characters.{charOf, digitOf, decimalDigit};
+ghost use Rattle.grid.specs.Characters.{charOf, digitOf};
+ghost use Rattle.grid.specs.inner.Roads.{decimalDigit};
+
+// One minute and one degree, in units of 1/2048 arc-second.
+pub const MINUTE: u32 = 60 * 2048;
+
+pub const DEGREE: u32 = 60 * MINUTE;
+
+// 360°, 180° and 90°.
+pub const TURN: u32 = 360 * DEGREE;
+
+pub const HALF: u32 = 180 * DEGREE;
+
+pub const QUARTER: u32 = 90 * DEGREE;
+
+// 88°, where the ordinary cells end, and 89°, where the belt ends and the disc begins.
+pub const POLAR: u32 = 88 * DEGREE;
+
+pub const DISC: u32 = 89 * DEGREE;
 
 // One level of the grid: a line of document 01's table, and what a polar cell and a cap divide into.
 pub struct Split {
@@ -174,68 +192,68 @@ const SPLITS: [Split; 10] = [
 
 const POLAR_CELLS: [PolarCell; 16] = [
     PolarCell {
-        west: 0,
-        low: 659865600,
+        west: 0 * DEGREE,
+        low: 89 * DEGREE + 30 * MINUTE,
     },
     PolarCell {
-        west: 0,
-        low: 656179200,
+        west: 0 * DEGREE,
+        low: 89 * DEGREE,
     },
     PolarCell {
-        west: 884736000,
-        low: 656179200,
+        west: 120 * DEGREE,
+        low: 89 * DEGREE,
     },
     PolarCell {
-        west: 1769472000,
-        low: 656179200,
+        west: 240 * DEGREE,
+        low: 89 * DEGREE,
     },
     PolarCell {
-        west: 0,
-        low: 648806400,
+        west: 0 * DEGREE,
+        low: 88 * DEGREE,
     },
     PolarCell {
-        west: 442368000,
-        low: 648806400,
+        west: 60 * DEGREE,
+        low: 88 * DEGREE,
     },
     PolarCell {
-        west: 0,
-        low: 652492800,
+        west: 0 * DEGREE,
+        low: 88 * DEGREE + 30 * MINUTE,
     },
     PolarCell {
-        west: 442368000,
-        low: 652492800,
+        west: 60 * DEGREE,
+        low: 88 * DEGREE + 30 * MINUTE,
     },
     PolarCell {
-        west: 884736000,
-        low: 648806400,
+        west: 120 * DEGREE,
+        low: 88 * DEGREE,
     },
     PolarCell {
-        west: 1327104000,
-        low: 648806400,
+        west: 180 * DEGREE,
+        low: 88 * DEGREE,
     },
     PolarCell {
-        west: 884736000,
-        low: 652492800,
+        west: 120 * DEGREE,
+        low: 88 * DEGREE + 30 * MINUTE,
     },
     PolarCell {
-        west: 1327104000,
-        low: 652492800,
+        west: 180 * DEGREE,
+        low: 88 * DEGREE + 30 * MINUTE,
     },
     PolarCell {
-        west: 2211840000,
-        low: 648806400,
+        west: 300 * DEGREE,
+        low: 88 * DEGREE,
     },
     PolarCell {
-        west: 1769472000,
-        low: 648806400,
+        west: 240 * DEGREE,
+        low: 88 * DEGREE,
     },
     PolarCell {
-        west: 2211840000,
-        low: 652492800,
+        west: 300 * DEGREE,
+        low: 88 * DEGREE + 30 * MINUTE,
     },
     PolarCell {
-        west: 1769472000,
-        low: 652492800,
+        west: 240 * DEGREE,
+        low: 88 * DEGREE + 30 * MINUTE,
     },
 ];
 

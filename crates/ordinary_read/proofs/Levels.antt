@@ -14,7 +14,8 @@ use Rattle.grid.specs.Characters.{digitOf}
 use Rattle.grid.specs.Tree.{Read, ok, bad, shift, next, follow}
 use Rattle.grid.specs.Codes.{answer}
 use Rattle.grid.specs.Splits.{splits, splitAt}
-use Rattle.grid.specs.Plane.{Node, sheet, childOf, plane, planeCodes, restOf}
+use Rattle.grid.specs.Plane.{Node, sheet, childOf, plane, planeCodes}
+use Rattle.grid.specs.inner.Roads.{laterRead}
 use Rattle.grid.proofs.Cut.{and-true, allBelow, below}
 use Rattle.grid.proofs.Lists.{take-map, drop-map}
 use Rattle.grid.proofs.Laws.{shift-shift}
@@ -123,8 +124,8 @@ module _ (w : List ℕ) where
 
 -- the nine levels, of which a code has as many as its length tells: all that `rest` answers
 pub together : (w : List ℕ) (m : Node) (level : ℕ) {c : Cursor} → 1 ≤ level → level ≤ 10 → length w ≡ splitAt (level - 1) .length → At w m 9 c
-    → answerOf level (readOf c) ≡ restOf level m w
-unfolding answerOf planeCodes restOf
+    → answerOf level (readOf c) ≡ laterRead level m w
+unfolding answerOf planeCodes laterRead
 together w m level a b e p =
     let j : suc (level - 1) ≡ level = omega arith in
     ap (answer planeCodes level)

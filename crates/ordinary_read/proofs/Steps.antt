@@ -10,7 +10,8 @@ use lib.IntN.{ℤ}
 use lib.ListN.{length, getD}
 use borrow.Author.Tests.{lt-ltb, le-ltb, le-leb, leb-true, leb-false}
 use Rattle.grid.specs.declared.Split.{Split}
-use Rattle.grid.specs.Characters.{digitOf, decimalDigit}
+use Rattle.grid.specs.Characters.{digitOf}
+use Rattle.grid.specs.inner.Roads.{decimalDigit}
 use Rattle.grid.specs.Tree.{Read, ok, bad, guard, shift}
 use Rattle.grid.specs.Splits.{first}
 use Rattle.grid.specs.Answers.{accepted, refused, wrongCharacter}

@@ -7,7 +7,8 @@ ghost use Prim.Native.Nat.{_≤_, _<_};
 ghost use lib.ListN.{length};
 ghost use Rattle.grid.specs.Tree.{bad};
 ghost use Rattle.grid.specs.Answers.{planeRead};
-ghost use Rattle.grid.specs.Plane.{sheet, restOf};
+ghost use Rattle.grid.specs.Plane.{sheet};
+ghost use Rattle.grid.specs.inner.Roads.{laterRead};
 ghost use Rattle.ordinary_read.specs.Reading.{
   readOf,
   answerOf,
@@ -162,7 +163,7 @@ impl Cursor {
 // The first four characters are read: north or south, a zone of 1 to 60 and a row below 22.
 pub fn rest(level: u32, north: bool, zone: u32, row: u32, code: &[u8]) -> PlaneRead
     requires { ⌜ Given level zone row (length (now code)) ⌝ }
-    ensures { λ r. ⌜ planeRead r ≡ restOf level (sheet north zone row) (now (code .entry)) ⌝ }
+    ensures { λ r. ⌜ planeRead r ≡ laterRead level (sheet north zone row) (now (code .entry)) ⌝ }
 {
     Cursor::start(north, zone, row)
         .next(grid::split_of(1), code)

@@ -11,17 +11,19 @@ use lib.Seq.{sets, take-suc, length-sets}
 use borrow.Author.Tests.{ltb-true}
 use Rattle.grid.specs.declared.Place.{Place}
 use Rattle.grid.specs.declared.Split.{Split}
-use Rattle.grid.specs.Units.{Square, OnGlobe, squareOf}
+use Rattle.grid.specs.Units.{Square, OnGlobe}
+use Rattle.grid.specs.inner.Roads.{squareOf}
 use Rattle.grid.specs.Characters.{charOf}
 use Rattle.grid.specs.Tree.{code}
 use Rattle.grid.specs.Codes.{codeIn}
-use Rattle.grid.specs.Splits.{split, splits, splitAt, placeOf}
+use Rattle.grid.specs.Splits.{split, splits, splitAt}
+use Rattle.grid.specs.inner.Roads.{placeOf}
 use Rattle.grid.specs.Plane.{globe, globeDigits, plane, planeCodes, codeOf}
 use Rattle.grid.proofs.Cut.{and-true}
 use Rattle.grid.proofs.Lists.{sets-next}
 use Rattle.grid.proofs.PlaneLaws.{index-unit, on-globe, splits-fit}
 use Rattle.grid.proofs.Lengths.{code-start}
-use Rattle.ordinary_write.specs.Writing.{Writable, digitsIn, charsAt}
+use Rattle.ordinary_write.specs.inner.Writing.{Writable, digitsIn, charsAt}
 use Rattle.ordinary_write.proofs.Direct.{direct, direct-more, code-plain}
 
 -- the levels after the first

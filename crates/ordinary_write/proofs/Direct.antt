@@ -17,7 +17,7 @@ use Rattle.grid.proofs.Cut.{part-direct, part-begins}
 use Rattle.grid.proofs.Step.{In, InCell, boxOf, cell-read, cell-into}
 use Rattle.grid.proofs.Globe.{Sheet, Pole, letter-north, globe-cases, globe-here}
 use Rattle.grid.proofs.PlaneLaws.{fitsGlobe, Good, GoodCell, cell-exact, good}
-use Rattle.ordinary_write.specs.Writing.{columnIn, rowIn, digitsIn}
+use Rattle.ordinary_write.specs.inner.Writing.{columnIn, rowIn, digitsIn}
 
 -- ---- the two axes, level by level
 

@@ -13,17 +13,19 @@ use lib.Seq.{sets}
 use borrow.Author.Tests.{ltb-true, leb-true, lt-ltb, le-ltb, eq-eqb, ne-eqb}
 use Rattle.grid.specs.declared.Place.{Place}
 use Rattle.grid.specs.declared.Split.{Split}
-use Rattle.grid.specs.Units.{POLAR, unit, squareOf}
+use Rattle.grid.specs.Units.{POLAR, unit}
+use Rattle.grid.specs.inner.Roads.{squareOf}
 use Rattle.grid.specs.Characters.{charOf}
 use Rattle.grid.specs.Tree.{code}
 use Rattle.grid.specs.Codes.{codeIn}
-use Rattle.grid.specs.Splits.{splitAt, placeOf}
+use Rattle.grid.specs.Splits.{splitAt}
+use Rattle.grid.specs.inner.Roads.{placeOf}
 use Rattle.grid.specs.Plane.{letter, zone, planeCodes, codeOf}
 use Rattle.grid.proofs.Cut.{allBelow, below}
 use Rattle.grid.proofs.Globe.{zone-high}
 use Rattle.grid.proofs.PlaneLaws.{index-unit, side-unit}
 use Rattle.grid.proofs.Lengths.{grows}
-use Rattle.ordinary_write.specs.Writing.{Writable, Later, columnIn, rowIn, digitsIn, charsAt}
+use Rattle.ordinary_write.specs.inner.Writing.{Writable, Later, columnIn, rowIn, digitsIn, charsAt}
 
 -- ---- a level after the first
 

@@ -5,10 +5,12 @@ ghost use mathlib.Core.Path.{_≡_};
 ghost use Prim.Native.Nat.{_≤_, _<_};
 ghost use lib.ListN.{length};
 ghost use lib.Seq.{sets};
-ghost use Rattle.grid.specs.Units.{HALF, POLAR, unit, squareOf};
-ghost use Rattle.grid.specs.Splits.{splitAt, placeOf};
+ghost use Rattle.grid.specs.Units.{HALF, POLAR, unit};
+ghost use Rattle.grid.specs.inner.Roads.{squareOf};
+ghost use Rattle.grid.specs.Splits.{splitAt};
+ghost use Rattle.grid.specs.inner.Roads.{placeOf};
 ghost use Rattle.grid.specs.Plane.{zone, codeOf};
-ghost use Rattle.ordinary_write.specs.Writing.{Writable, Later, charsAt};
+ghost use Rattle.ordinary_write.specs.inner.Writing.{Writable, Later, charsAt};
 use grid::Place;
 use grid::Split;
 

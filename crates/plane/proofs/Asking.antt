@@ -8,7 +8,8 @@ use lib.IntN.{ℤ, pos, negsuc}
 use borrow.Author.Tests.{leb-true, le-leb, lt-leb, lt-ltb, le-ltb}
 use Rattle.grid.specs.declared.Place.{Place}
 use Rattle.grid.specs.declared.Refusal.{Refusal}
-use Rattle.grid.specs.Units.{side, index, unit, Square, squareOf}
+use Rattle.grid.specs.Units.{side, index, unit, Square}
+use Rattle.grid.specs.inner.Roads.{squareOf}
 use Rattle.grid.specs.Answers.{refusal}
 use Rattle.grid.specs.Laying.{Text, refuse, text}
 use Rattle.grid.specs.Plane.{codeOf}

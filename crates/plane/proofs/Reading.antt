@@ -13,7 +13,8 @@ use Rattle.grid.specs.Tree.{Read, ok, bad, next, follow}
 use Rattle.grid.specs.Answers.{Answer, refused, wrongLength, wrongCharacter}
 use Rattle.grid.specs.Codes.{placeIn, answer, answerAt, readIn}
 use Rattle.grid.specs.Splits.{splits, splitAt}
-use Rattle.grid.specs.Plane.{Node, plane, globeChild, planeCodes, cellOf, restOf}
+use Rattle.grid.specs.Plane.{Node, plane, globeChild, planeCodes, cellOf}
+use Rattle.grid.specs.inner.Roads.{laterRead}
 use Rattle.grid.proofs.Cut.{below}
 use Rattle.grid.proofs.Lists.{drop-map}
 use Rattle.grid.proofs.Families.{level-length}
@@ -68,8 +69,8 @@ module _ (w : List ℕ) where
   unfolding planeCodes
   read-first {l} {p} t e = by-first l t (bad p) (sym e)
 
-  pub read-rest : {l : ℕ} {n : Node} {a : Answer Cell} → Leveled (length w) l → ok n ≡ globeChild (take 4 (map digitOf w)) → a ≡ restOf l n w → a ≡ cellOf w
-  unfolding restOf planeCodes
+  pub read-rest : {l : ℕ} {n : Node} {a : Answer Cell} → Leveled (length w) l → ok n ≡ globeChild (take 4 (map digitOf w)) → a ≡ laterRead l n w → a ≡ cellOf w
+  unfolding laterRead planeCodes
   read-rest {l} {n} t e q = q ∙ ap (λ (d : List ℕ). answer planeCodes l (next 4 (ok n) (λ m. follow plane (drop 1 (take l splits)) m d))) (sym (drop-map digitOf 4 w)) ∙ by-first l t (ok n) (sym e)
 
 -- every code has its first four characters

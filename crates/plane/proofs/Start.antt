@@ -8,7 +8,8 @@ use native.Mathlib.Omega.{arith}
 use lib.Dec.{ltb}
 use lib.ListN.{length, take, getD}
 use borrow.Author.Tests.{ltb-true, ltb-false, lt-ltb, le-ltb, le-leb, lt-leb, eq-eqb, ne-eqb}
-use Rattle.grid.specs.Characters.{charOf, digitOf, decimalDigit}
+use Rattle.grid.specs.Characters.{charOf, digitOf}
+use Rattle.grid.specs.inner.Roads.{decimalDigit}
 use Rattle.grid.specs.Tree.{Read, ok, bad}
 use Rattle.grid.specs.Plane.{Node, pole, sheet, letter, globeChild}
 use Rattle.grid.proofs.Characters.{digit-char, char-digit, decimal-below, decimal-above}

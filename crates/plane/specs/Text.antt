@@ -8,7 +8,8 @@ use Prim.Native.Nat.{ℕ, _-_, _≤_, _<_}
 use lib.Dec.{ltb, leb}
 use lib.IntN.{ℤ, pos, negsuc}
 use lib.ListN.{length}
-use Rattle.grid.specs.Units.{HALF, QUARTER, index, Square, squareOf}
+use Rattle.grid.specs.Units.{HALF, QUARTER, index, Square}
+use Rattle.grid.specs.inner.Roads.{squareOf}
 use Rattle.grid.specs.declared.Place.{Place}
 use Rattle.grid.specs.Splits.{splits, splitAt}
 use Rattle.grid.specs.Codes.{placeIn}

@@ -16,7 +16,8 @@ use Rattle.grid.specs.declared.Cell.{Cell}
 use Rattle.grid.specs.Answers.{Answer}
 use Rattle.grid.specs.Codes.{answer}
 use Rattle.grid.specs.Splits.{splits, splitAt}
-use Rattle.grid.specs.Plane.{Node, pole, least, longitudeAt, leastFromPole, cellFrom, cellAt, planeCodes, restOf}
+use Rattle.grid.specs.Plane.{Node, pole, least, longitudeAt, leastFromPole, cellFrom, cellAt, planeCodes}
+use Rattle.grid.specs.inner.Roads.{laterRead}
 use Rattle.grid.proofs.Cut.{clash, and-true}
 use Rattle.grid.proofs.Lengths.{adds, grows}
 use Rattle.grid.proofs.PlaneLaws.{Good, GoodCell, GoodCap, cell-positive, cap-positive, limX, limY}
@@ -176,8 +177,8 @@ unfolding planeCodes
 answer-as l (ok m) = refl
 answer-as l (bad p) = refl
 
-rest-is : (l : ℕ) (n : Bool) (w : List ℕ) → answerOf l (soFar n l w) ≡ restOf l (pole n) w
-unfolding restOf planeCodes soFar
+rest-is : (l : ℕ) (n : Bool) (w : List ℕ) → answerOf l (soFar n l w) ≡ laterRead l (pole n) w
+unfolding laterRead planeCodes soFar
 rest-is l n w = answer-as l (soFar n l w)
 
 -- ---- N000 and S000
@@ -195,7 +196,7 @@ module _ {n : Bool} {c : Cursor} (e : c ≡ startOf n) where
         round = λ g. record { in-disc = refl; west = refl; wide = refl; inner = refl };
       })
 
-  pub start-answers : {l : ℕ} (w : List ℕ) {a : Answer Cell} → l ≡ 1 → a ≡ answerOf l (readOf c) → a ≡ restOf l (pole n) w
+  pub start-answers : {l : ℕ} (w : List ℕ) {a : Answer Cell} → l ≡ 1 → a ≡ answerOf l (readOf c) → a ≡ laterRead l (pole n) w
   unfolding soFar follow
   start-answers {l} w z q = q ∙ rw (e, z) (rest-is 1 n w)
 
@@ -205,7 +206,7 @@ long-two {level} a f =
     omega (arith, a .long)
 
 -- the last cursor's answer is the whole reading's
-pub answers : (l : ℕ) (w : List ℕ) {n : Bool} {c : Cursor} {a : Answer Cell} → a ≡ answerOf l (readOf c) → Reached (min 10 l) w c → l ≤ 10 → c .north ≡ n → a ≡ restOf l (pole n) w
+pub answers : (l : ℕ) (w : List ℕ) {n : Bool} {c : Cursor} {a : Answer Cell} → a ≡ answerOf l (readOf c) → Reached (min 10 l) w c → l ≤ 10 → c .north ≡ n → a ≡ laterRead l (pole n) w
 answers l w {n} {c} e r h q =
     let z : min 10 l ≡ l = omega arith in
     let m : readOf c ≡ soFar n l w = r .means ∙ ap (λ (j : ℕ). soFar (c .north) j w) z ∙ ap (λ (b : Bool). soFar b l w) q in

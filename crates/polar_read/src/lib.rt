@@ -8,7 +8,8 @@ ghost use Prim.Native.Nat.{ℕ, _+_, _≤_, _<_, min};
 ghost use lib.ListN.{length};
 ghost use Rattle.grid.specs.Tree.{ok, bad};
 ghost use Rattle.grid.specs.Answers.{planeRead};
-ghost use Rattle.grid.specs.Plane.{pole, allowed, longitudeAt, leastFromPole, cellAt, polarNode, restOf};
+ghost use Rattle.grid.specs.Plane.{pole, allowed, longitudeAt, leastFromPole, cellAt, polarNode};
+ghost use Rattle.grid.specs.inner.Roads.{laterRead};
 ghost use Rattle.polar_read.specs.Reading.{nodeOf, readOf, startOf, Round, HasRead, Moved, Reached, answerOf};
 ghost use Rattle.polar_read.specs.Reading.{columnsOf, inmostOf, divided, childIn, settledOf, stepOf};
 ghost use Rattle.polar_read.specs.Room.{OfLevel, Whole, Room, ChildRoom, Ready};
@@ -293,7 +294,7 @@ impl Cursor {
 // The rest of a polar plane code, after its first four characters; the level is the one that its length says.
 pub fn rest(level: u32, north: bool, code: &[u8]) -> PlaneRead
     requires { ⌜ OfLevel level (now code) ⌝ }
-    ensures { λ r. ⌜ planeRead r ≡ restOf level (pole north) (now (code .entry)) ⌝ }
+    ensures { λ r. ⌜ planeRead r ≡ laterRead level (pole north) (now (code .entry)) ⌝ }
 {
     let start = Cursor::start(north);
     if level == 1 {

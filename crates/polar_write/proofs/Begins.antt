@@ -7,7 +7,8 @@ use native.Mathlib.Omega.{arith}
 use lib.Dec.{ltb, leb, eqb}
 use borrow.Author.Tests.{ltb-true, leb-true, eqb-true, lt-ltb, le-ltb, le-leb, ne-eqb}
 use Rattle.grid.specs.declared.Place.{Place}
-use Rattle.grid.specs.Units.{TURN, HALF, index, unit, eastward, Square, squareOf}
+use Rattle.grid.specs.Units.{TURN, HALF, index, unit, eastward, Square}
+use Rattle.grid.specs.inner.Roads.{squareOf}
 use Rattle.grid.specs.Splits.{polarCellAt}
 use Rattle.grid.specs.Plane.{cell, belt, SIXTH, polarWidth, polarCellOf, polarNode, beltBox}
 use Rattle.grid.proofs.Cut.{and-make, allBelow, below}

@@ -9,7 +9,8 @@ use native.Mathlib.Nat.{div-lt-iff-lt-mul, mul-comm}
 use native.Mathlib.Omega.{arith}
 use Rattle.grid.specs.declared.Split.{Split}
 use Rattle.grid.specs.Units.{Square}
-use Rattle.grid.specs.Splits.{splitAt, placeOf}
+use Rattle.grid.specs.Splits.{splitAt}
+use Rattle.grid.specs.inner.Roads.{placeOf}
 use Rattle.grid.specs.Plane.{Node, globe, pole, cell, cap, xIn, yIn}
 use Rattle.grid.proofs.Step.{In, eastward-below}
 use Rattle.polar_write.specs.declared.Spot.{Spot}

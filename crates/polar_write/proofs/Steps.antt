@@ -10,7 +10,7 @@ use lib.Seq.{sets}
 use lib.Dec.{eqb}
 use borrow.Author.Tests.{lt-ltb, le-ltb, eq-eqb, ne-eqb}
 use Rattle.grid.specs.declared.Split.{Split}
-use Rattle.grid.specs.Splits.{placeOf}
+use Rattle.grid.specs.inner.Roads.{placeOf}
 use Rattle.grid.specs.Characters.{charOf}
 use Rattle.grid.specs.Plane.{quad, trio, write}
 use Rattle.polar_write.specs.declared.Step.{Step}

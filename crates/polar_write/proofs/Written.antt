@@ -9,8 +9,10 @@ use lib.ListN.{length}
 use lib.Seq.{sets, length-sets}
 use Rattle.grid.specs.declared.Split.{Split}
 use Rattle.grid.specs.declared.Place.{Place}
-use Rattle.grid.specs.Units.{index, Square, OnGlobe, squareOf}
-use Rattle.grid.specs.Splits.{splitAt, placeOf}
+use Rattle.grid.specs.Units.{index, Square, OnGlobe}
+use Rattle.grid.specs.inner.Roads.{squareOf}
+use Rattle.grid.specs.Splits.{splitAt}
+use Rattle.grid.specs.inner.Roads.{placeOf}
 use Rattle.grid.specs.Characters.{charOf}
 use Rattle.grid.specs.Plane.{Node, polarCellOf, polarNode, formOf, write, codeOf}
 use Rattle.grid.proofs.Lists.{sets-next}

@@ -10,8 +10,10 @@ use lib.ListN.{length}
 use lib.Seq.{sets}
 use Rattle.grid.specs.declared.Split.{Split}
 use Rattle.grid.specs.declared.Place.{Place}
-use Rattle.grid.specs.Units.{TURN, HALF, QUARTER, POLAR, eastward, fromPole, Square, squareOf}
-use Rattle.grid.specs.Splits.{splitAt, placeOf}
+use Rattle.grid.specs.Units.{TURN, HALF, QUARTER, POLAR, eastward, fromPole, Square}
+use Rattle.grid.specs.inner.Roads.{squareOf}
+use Rattle.grid.specs.Splits.{splitAt}
+use Rattle.grid.specs.inner.Roads.{placeOf}
 use Rattle.grid.specs.Characters.{charOf}
 use Rattle.grid.specs.Plane.{Node, globe, pole, cell, cap, xIn, yIn, formOf, write, letter, polarCellOf, polarNode, codeOf}
 use Rattle.polar_write.specs.declared.Spot.{Spot}

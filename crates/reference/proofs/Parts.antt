@@ -17,7 +17,8 @@ use borrow.Author.Tests.{lt-ltb, le-ltb, le-leb, lt-leb, ltb-true, eq-eqb, ne-eq
 use Rattle.grid.specs.declared.Cell.{Cell}
 use Rattle.grid.specs.declared.Place.{Place}
 use Rattle.grid.specs.declared.Refusal.{Refusal}
-use Rattle.grid.specs.Units.{TURN, HALF, QUARTER, POLAR, index, unit, Square, squareOf}
+use Rattle.grid.specs.Units.{TURN, HALF, QUARTER, POLAR, index, unit, Square}
+use Rattle.grid.specs.inner.Roads.{squareOf}
 use Rattle.grid.specs.Answers.{accepted, refusal, wrongCharacter}
 use Rattle.grid.specs.Cells.{around}
 use Rattle.grid.specs.Laying.{Text, refuse, text}

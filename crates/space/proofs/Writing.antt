@@ -12,7 +12,8 @@ use lib.Seq.{sets, sets-eq, take-at}
 use borrow.Author.Tests.{lt-ltb}
 use Rattle.grid.specs.declared.Place.{Place}
 use Rattle.grid.specs.declared.Refusal.{Refusal}
-use Rattle.grid.specs.Units.{HALF, QUARTER, side, index, Square, Cube, OnGrid, squareOf}
+use Rattle.grid.specs.Units.{HALF, QUARTER, side, index, Square, Cube, OnGrid}
+use Rattle.grid.specs.inner.Roads.{squareOf}
 use Rattle.grid.specs.Characters.{charOf}
 use Rattle.grid.specs.Tree.{code}
 use Rattle.grid.specs.Answers.{refusal}

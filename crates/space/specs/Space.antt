@@ -10,7 +10,8 @@ use Rattle.grid.specs.declared.Split.{Split}
 use Rattle.grid.specs.declared.SpaceCell.{SpaceCell}
 use Rattle.grid.specs.declared.Cell.{Cell}
 use Rattle.grid.specs.declared.Place.{Place}
-use Rattle.grid.specs.Units.{HALF, QUARTER, LAYERS, index, Square, squareOf}
+use Rattle.grid.specs.Units.{HALF, QUARTER, LAYERS, index, Square}
+use Rattle.grid.specs.inner.Roads.{squareOf}
 use Rattle.grid.specs.Tree.{Read, ok, bad}
 use Rattle.grid.specs.Splits.{splits}
 use Rattle.grid.specs.Codes.{placeIn}

@@ -9,7 +9,7 @@ ghost use lib.Seq.{sets};
 ghost use Rattle.grid.specs.Answers.{refused, wrongCharacter, planeRead};
 ghost use Rattle.grid.specs.Laying.{text, laid, written};
 ghost use Rattle.grid.specs.Space.{spaceCodeOf, spaceCellOf, spaceLengths};
-ghost use Rattle.grid.specs.Units.{squareOf};
+ghost use Rattle.grid.specs.inner.Roads.{squareOf};
 ghost use Rattle.grid.specs.Characters.{digitOf};
 ghost use Rattle.grid.specs.Splits.{splitAt};
 ghost use Rattle.grid.specs.Plane.{cellOf};

@@ -1,7 +1,7 @@
 -- `plane::lay` meets its contract. Assumes nothing.
 use mathlib.Core.Path.{refl, _∙_, sym}
 use Prim.Native.Nat.{_<_}
-use Rattle.grid.specs.Units.{squareOf}
+use Rattle.grid.specs.inner.Roads.{squareOf}
 use Rattle.grid.proofs.Laying.{laid-past-by, laid-short-by, laid-lent}
 use Rattle.plane.proofs.Reading.{code-length, on-globe}
 use borrow.Author.Needs.{needs}

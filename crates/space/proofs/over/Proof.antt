@@ -1,7 +1,7 @@
 -- `space::over` meets its contract. Assumes nothing.
 use mathlib.Core.Path.{sym, _∙_, ap}
 use mir.Facts.{toZ-ofZ}
-use Rattle.grid.specs.Units.{squareOf}
+use Rattle.grid.specs.inner.Roads.{squareOf}
 use Rattle.grid.specs.Layers.{radices}
 use Rattle.grid.specs.Laying as laying
 use Rattle.layers.specs.Heights.{askedOf}
