@@ -16,9 +16,9 @@ use grid::PlaneRead;
 use grid::Refusal;
 
 // A longitude's numbers, either way from 0, and a latitude's.
-const HALF: u64 = 1327104000;
+const HALF: u64 = grid::HALF as u64;
 
-const QUARTER: u64 = 663552000;
+const QUARTER: u64 = grid::QUARTER as u64;
 
 // A position in whole units.
 pub struct Units {

@@ -18,20 +18,17 @@ ghost use Rattle.reference.specs.Offsets.{offsetDigit, movedTo, between,
 ghost use Rattle.reference.specs.Text.{fit, referenceCode, ofSecond, spelled, spanned, related, referenceText, targetSquare, targetOf, aimed, targetText};
 ghost use Rattle.reference.specs.Parts.{offsetText, Small, Known, Reading, Steps};
 use grid::Cell;
+use grid::HALF;
+use grid::POLAR;
 use grid::Place;
 use grid::PlaneRead;
 use grid::Refusal;
+use grid::TURN;
 use grid::Written;
 use plane::Asked;
 
-// In units: a full turn, the last remainder by it, half a turn, and 88°, where the ordinary cells end.
-const TURN: u32 = 2654208000;
-
-const LAST: u32 = 2654207999;
-
-const HALF: u32 = 1327104000;
-
-const POLAR: u32 = 648806400;
+// The last remainder by a full turn.
+const LAST: u32 = TURN - 1;
 
 // M and N as digits, or why there are none.
 enum Offset {
