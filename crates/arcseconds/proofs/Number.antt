@@ -2,13 +2,13 @@
 -- Assumes nothing.
 use mathlib.Core.Path.{_≡_, refl, sym, ap, ap₂, subst}
 use mathlib.Core.Bool.{Bool, true, false, not, cond, _||_, false≢true}
+use lib.IntN.{ℤ}
 use lib.Dec.{T}
 use lib.Ieee.{Float, nan, inf, fin, isNan, ne}
 use lib.Ieee.Bits.{is-true, is-false}
 use lib.Ieee.Compare.{differs-from-itself}
 use Rattle.grid.specs.Units.{HALF, QUARTER}
-use Rattle.grid.specs.Answers.{refused, refusal}
-use Rattle.arcseconds.specs.declared.Reading.{Reading}
+use Rattle.grid.specs.Answers.{Answer, refused, refusal}
 use Rattle.arcseconds.specs.Readings.{readingOf, unitsAt, unitsOf}
 
 -- a reading differs from itself exactly where it is not a number
@@ -23,7 +23,7 @@ no-nan (inf s) h = tt
 no-nan (fin s m e) h = tt
 
 -- the answer, given whether either is not a number and what each reading comes to
-pub decided : (x y : Float) (q : Bool) (a b : Reading) → (isNan x || isNan y) ≡ q → readingOf HALF x ≡ a → readingOf QUARTER y ≡ b → unitsOf x y ≡ cond q (refused (refusal 11 0)) (unitsAt a b)
+pub decided : (x y : Float) (q : Bool) (a b : Answer ℤ) → (isNan x || isNan y) ≡ q → readingOf 2 HALF x ≡ a → readingOf 3 QUARTER y ≡ b → unitsOf x y ≡ cond q (refused (refusal 11 0)) (unitsAt a b)
 unfolding unitsOf
 decided x y q a b e f g = rw (e, f, g)
 
@@ -41,5 +41,5 @@ second-nan x y h = sym (is-eleven x y (subst (λ (q : Bool). T (isNan x || q)) (
     either true = tt
     either false = tt
 
-pub both-numbers : (x y : Float) → ne x x ≡ false → ne y y ≡ false → unitsAt (readingOf HALF x) (readingOf QUARTER y) ≡ unitsOf x y
+pub both-numbers : (x y : Float) → ne x x ≡ false → ne y y ≡ false → unitsAt (readingOf 2 HALF x) (readingOf 3 QUARTER y) ≡ unitsOf x y
 both-numbers x y a b = sym (decided x y false _ _ (ap₂ _||_ (is-false (isNan x) (no-nan x a)) (is-false (isNan y) (no-nan y b))) refl refl)

@@ -38,35 +38,34 @@ use mir.Val.{SFits, toZ, ofZ}
 use mir.ValLaws.{toZ-pos, toZ-ofZ}
 use Rattle.grid.specs.Units.{index, unit}
 use Rattle.grid.proofs.PlaneLaws.{index-unit}
-use Rattle.arcseconds.specs.declared.Reading.{Reading}
-use Rattle.arcseconds.specs.declared.Reading.the-variants.{Whole, Outside}
+use Rattle.grid.specs.Answers.{Answer, accepted, refused, refusal}
 use Rattle.arcseconds.specs.Readings.{greatestWhole, inRange, readingOf}
 use Rattle.arcseconds.proofs.Whole.{whole-same, whole-tiny, whole-index}
 
 -- ---- a number in a range, and one outside it
 
-pub inside : (H : ℕ) (u : ℤ) → index u < H → inRange H u ≡ Whole u
-inside H u h = ap (λ (t : Bool). cond t (Whole u) Outside) (lt-ltb (index u) H h)
+pub inside : (k H : ℕ) (u : ℤ) → index u < H → inRange k H u ≡ accepted u
+inside k H u h = ap (λ (t : Bool). cond t (accepted u) (refused (refusal k 0))) (lt-ltb (index u) H h)
 
-pub beyond : (H : ℕ) (u : ℤ) → H ≤ index u → inRange H u ≡ Outside
-beyond H u h = ap (λ (t : Bool). cond t (Whole u) Outside) (le-ltb (index u) H h)
+pub beyond : (k H : ℕ) (u : ℤ) → H ≤ index u → inRange k H u ≡ refused (refusal k 0)
+beyond k H u h = ap (λ (t : Bool). cond t (accepted u) (refused (refusal k 0))) (le-ltb (index u) H h)
 
 -- ---- the reading depends on the sign and the value alone
 
 -- a reading of size a / c arc-seconds, in units
-abbrev pub readAt : ℕ → Bool → ℕ → ℕ → Reading
-readAt half s a c = inRange half (greatestWhole s (2048 * a) c)
+abbrev pub readAt : ℕ → ℕ → Bool → ℕ → ℕ → Answer ℤ
+readAt k half s a c = inRange k half (greatestWhole s (2048 * a) c)
 
 times : (n d k c : ℕ) → n * c ≡ k * d → 2048 * n * c ≡ 2048 * k * d
 times n d k c e = mul-assoc 2048 n c ∙ ap (λ (x : ℕ). 2048 * x) e ∙ sym (mul-assoc 2048 k d)
 
-pub reading-value : (h : ℕ) (x : Float) (s : Bool) (a c : ℕ) → 0 < c → HasValue x s a c → readingOf h x ≡ readAt h s a c
+pub reading-value : (k h : ℕ) (x : Float) (s : Bool) (a c : ℕ) → 0 < c → HasValue x s a c → readingOf k h x ≡ readAt k h s a c
 unfolding readingOf
-reading-value h nan s a c C v = absurd v
-reading-value h (inf t) s a c C v = absurd v
-reading-value h (fin t m e) s a c C v =
-    ap (λ (r : Bool). readAt h r (m * up e) (down e)) (v .0)
-    ∙ ap (inRange h) (whole-same s (2048 * (m * up e)) (down e) (2048 * a) c (down-pos e) C (times (m * up e) (down e) a c (v .1)))
+reading-value k h nan s a c C v = absurd v
+reading-value k h (inf t) s a c C v = absurd v
+reading-value k h (fin t m e) s a c C v =
+    ap (λ (r : Bool). readAt k h r (m * up e) (down e)) (v .0)
+    ∙ ap (inRange k h) (whole-same s (2048 * (m * up e)) (down e) (2048 * a) c (down-pos e) C (times (m * up e) (down e) a c (v .1)))
 
 -- ---- a pattern b: its sign, its exponent's field, and its outward index
 
@@ -138,8 +137,8 @@ less b h = go (sign b) refl
 
 -- ---- for one half, above 0 and below 2 ^ 31
 
-module _ (H : ℕ) (some : 0 < H) (few : H < 2 ^ 31) where
-  zero-reads : (s : Bool) → readingOf H (ofFields binary64 s 0 0) ≡ inRange H (pos 0)
+module _ (k H : ℕ) (some : 0 < H) (few : H < 2 ^ 31) where
+  zero-reads : (s : Bool) → readingOf k H (ofFields binary64 s 0 0) ≡ inRange k H (pos 0)
   unfolding readingOf ofFields odd
   zero-reads true = refl
   zero-reads false = refl
@@ -148,17 +147,17 @@ module _ (H : ℕ) (some : 0 < H) (few : H < 2 ^ 31) where
   no-field n h = omega arith
 
   -- zero, of either sign
-  pub reads-zero : (b : ℕ) → b % 2 ^ 63 ≡ 0 → Whole (pos 0) ≡ readingOf H (ofBits binary64 b)
+  pub reads-zero : (b : ℕ) → b % 2 ^ 63 ≡ 0 → accepted (pos 0) ≡ readingOf k H (ofBits binary64 b)
   reads-zero b h =
-      sym (ap (readingOf H) (ofBits-is b ∙ ap₂ (λ (z t : ℕ). ofFields binary64 (sign b) z t) (no-field (b % 2 ^ 63) h) (sym (digits-of b) ∙ ap (λ (n : ℕ). n % 2 ^ 52) h)) ∙ zero-reads (sign b) ∙ inside H (pos 0) some)
+      sym (ap (readingOf k H) (ofBits-is b ∙ ap₂ (λ (z t : ℕ). ofFields binary64 (sign b) z t) (no-field (b % 2 ^ 63) h) (sym (digits-of b) ∙ ap (λ (n : ℕ). n % 2 ^ 52) h)) ∙ zero-reads (sign b) ∙ inside k H (pos 0) some)
 
   -- the value under a field of 1 to 2046, and under 0
-  normal-value : (s : Bool) (j t : ℕ) → suc j < 2047 → readingOf H (ofFields binary64 s (suc j) t) ≡ readAt H s ((2 ^ 52 + t) * 2 ^ j) (2 ^ 1074)
-  normal-value s j t h = ap (readingOf H) (under-top s j t h) ∙ reading-value H (odd 53 s (2 ^ 52 + t) j 1074) s ((2 ^ 52 + t) * 2 ^ j) (2 ^ 1074) (pow-pos 1074) (odd-sign 53 s (2 ^ 52 + t) j 1074)
+  normal-value : (s : Bool) (j t : ℕ) → suc j < 2047 → readingOf k H (ofFields binary64 s (suc j) t) ≡ readAt k H s ((2 ^ 52 + t) * 2 ^ j) (2 ^ 1074)
+  normal-value s j t h = ap (readingOf k H) (under-top s j t h) ∙ reading-value k H (odd 53 s (2 ^ 52 + t) j 1074) s ((2 ^ 52 + t) * 2 ^ j) (2 ^ 1074) (pow-pos 1074) (odd-sign 53 s (2 ^ 52 + t) j 1074)
 
-  small-value : (s : Bool) (t : ℕ) → readingOf H (ofFields binary64 s 0 t) ≡ readAt H s (t * 2 ^ 0) (2 ^ 1074)
+  small-value : (s : Bool) (t : ℕ) → readingOf k H (ofFields binary64 s 0 t) ≡ readAt k H s (t * 2 ^ 0) (2 ^ 1074)
   unfolding ofFields
-  small-value s t = reading-value H (odd 53 s t 0 1074) s (t * 2 ^ 0) (2 ^ 1074) (pow-pos 1074) (odd-sign 53 s t 0 1074)
+  small-value s t = reading-value k H (odd 53 s t 0 1074) s (t * 2 ^ 0) (2 ^ 1074) (pow-pos 1074) (odd-sign 53 s t 0 1074)
 
   -- 2 ^ 20 arc-seconds and more
   far-index : (s : Bool) (n c : ℕ) → 0 < c → 2147483648 * c ≤ n → H ≤ index (greatestWhole s n c)
@@ -169,73 +168,73 @@ module _ (H : ℕ) (some : 0 < H) (few : H < 2 ^ 31) where
       one-less : (c n : ℕ) → 0 < c → 2147483648 * c ≤ suc n → 2147483647 * c ≤ n
       one-less c n C h = omega arith
 
-  read-far : (s : Bool) (a c : ℕ) → 0 < c → 2 ^ 20 * c ≤ a → readAt H s a c ≡ Outside
-  read-far s a c C h = beyond H (greatestWhole s (2048 * a) c) (far-index s (2048 * a) c C (up-by a c h))
+  read-far : (s : Bool) (a c : ℕ) → 0 < c → 2 ^ 20 * c ≤ a → readAt k H s a c ≡ refused (refusal k 0)
+  read-far s a c C h = beyond k H (greatestWhole s (2048 * a) c) (far-index s (2048 * a) c C (up-by a c h))
     where
       up-by : (a c : ℕ) → 1048576 * c ≤ a → 2147483648 * c ≤ 2048 * a
       up-by a c h = omega arith
 
-  at-top : (s : Bool) (t : ℕ) → readingOf H (ofFields binary64 s 2047 t) ≡ Outside
+  at-top : (s : Bool) (t : ℕ) → readingOf k H (ofFields binary64 s 2047 t) ≡ refused (refusal k 0)
   unfolding readingOf ofFields
   at-top s t = go (eqb t 0)
     where
-      go : (q : Bool) → readingOf H (cond q (inf s) nan) ≡ Outside
+      go : (q : Bool) → readingOf k H (cond q (inf s) nan) ≡ refused (refusal k 0)
       go true = refl
       go false = refl
 
-  fields-far : (s : Bool) (z t : ℕ) → z < 2048 → 1043 ≤ z → readingOf H (ofFields binary64 s z t) ≡ Outside
+  fields-far : (s : Bool) (z t : ℕ) → z < 2048 → 1043 ≤ z → readingOf k H (ofFields binary64 s z t) ≡ refused (refusal k 0)
   fields-far s zero t Z h = absurd (omega arith)
   fields-far s (suc j) t Z h = go (eq-or-lt-of-le (le-of-suc-le-suc Z))
     where
       pred : 1043 ≤ suc j → 1042 ≤ j
       pred h = omega arith
 
-      go : (suc j ≡ 2047) ⊎ (suc j < 2047) → readingOf H (ofFields binary64 s (suc j) t) ≡ Outside
-      go (inl e) = ap (λ (z : ℕ). readingOf H (ofFields binary64 s z t)) e ∙ at-top s t
+      go : (suc j ≡ 2047) ⊎ (suc j < 2047) → readingOf k H (ofFields binary64 s (suc j) t) ≡ refused (refusal k 0)
+      go (inl e) = ap (λ (z : ℕ). readingOf k H (ofFields binary64 s z t)) e ∙ at-top s t
       go (inr l) = normal-value s j t l ∙ read-far s ((2 ^ 52 + t) * 2 ^ j) (2 ^ 1074) (pow-pos 1074) (far-enough t j (pred h))
 
-  pub reads-far : (b : ℕ) → 1043 ≤ field b → Outside ≡ readingOf H (ofBits binary64 b)
-  reads-far b h = sym (ap (readingOf H) (ofBits-is b) ∙ fields-far (sign b) (field b) (b % 2 ^ 52) (field-lt b) h)
+  pub reads-far : (b : ℕ) → 1043 ≤ field b → refused (refusal k 0) ≡ readingOf k H (ofBits binary64 b)
+  reads-far b h = sym (ap (readingOf k H) (ofBits-is b) ∙ fields-far (sign b) (field b) (b % 2 ^ 52) (field-lt b) h)
 
   -- the rest: the digits, under a leading one, over 2 ^ (1064 - field)
-  normal-near : (s : Bool) (j t : ℕ) → suc j < 1043 → readingOf H (ofFields binary64 s (suc j) t) ≡ inRange H (greatestWhole s (2 ^ 52 + t) (2 ^ (1064 - suc j)))
+  normal-near : (s : Bool) (j t : ℕ) → suc j < 1043 → readingOf k H (ofFields binary64 s (suc j) t) ≡ inRange k H (greatestWhole s (2 ^ 52 + t) (2 ^ (1064 - suc j)))
   normal-near s j t h =
       let q = 2 ^ 52 + t in
       normal-value s j t (wider j h)
-      ∙ ap (inRange H) (whole-same s (2048 * (q * 2 ^ j)) (2 ^ 1074) q (2 ^ (1064 - suc j)) (pow-pos 1074) (pow-pos (1064 - suc j)) (cross q j h))
+      ∙ ap (inRange k H) (whole-same s (2048 * (q * 2 ^ j)) (2 ^ 1074) q (2 ^ (1064 - suc j)) (pow-pos 1074) (pow-pos (1064 - suc j)) (cross q j h))
     where
       wider : (j : ℕ) → suc j < 1043 → suc j < 2047
       wider j h = omega arith
 
-  small-near : (s : Bool) (t : ℕ) → t < 2 ^ 52 → 0 < t → readingOf H (ofFields binary64 s 0 t) ≡ inRange H (greatestWhole s (2 ^ 52 + t) (2 ^ 1064))
+  small-near : (s : Bool) (t : ℕ) → t < 2 ^ 52 → 0 < t → readingOf k H (ofFields binary64 s 0 t) ≡ inRange k H (greatestWhole s (2 ^ 52 + t) (2 ^ 1064))
   small-near s t T52 P =
       let T0 : t * 2 ^ 0 < 2 ^ 52 = subst (λ (x : ℕ). x < 2 ^ 52) (sym (mul-one t)) T52 in
       let P0 : 0 < t * 2 ^ 0 = subst (λ (x : ℕ). 0 < x) (sym (mul-one t)) P in
       small-value s t
-      ∙ ap (inRange H) (whole-tiny s (2048 * (t * 2 ^ 0)) (2 ^ 52 + t) (2 ^ 1074) (2 ^ 1064) (mul-pos (lit< tt) P0) (with-some t)
+      ∙ ap (inRange k H) (whole-tiny s (2048 * (t * 2 ^ 0)) (2 ^ 52 + t) (2 ^ 1074) (2 ^ 1064) (mul-pos (lit< tt) P0) (with-some t)
       (lt-of-lt-of-le (mul-lt-left (t * 2 ^ 0) T0) (lit≤ tt)) (lt-of-lt-of-le (with-lead t T52) (lit≤ tt)))
 
-  fields-near : (s : Bool) (z t : ℕ) → t < 2 ^ 52 → z < 1043 → (z ≡ 0 → 0 < t) → readingOf H (ofFields binary64 s z t) ≡ inRange H (greatestWhole s (2 ^ 52 + t) (2 ^ (1064 - z)))
+  fields-near : (s : Bool) (z t : ℕ) → t < 2 ^ 52 → z < 1043 → (z ≡ 0 → 0 < t) → readingOf k H (ofFields binary64 s z t) ≡ inRange k H (greatestWhole s (2 ^ 52 + t) (2 ^ (1064 - z)))
   fields-near s zero t T52 h p = small-near s t T52 (p refl)
   fields-near s (suc j) t T52 h p = normal-near s j t h
 
-  pub reads-near : (b : ℕ) → b < 2 * 2 ^ 63 → (b % 2 ^ 63 ≡ 0 → ⊥) → field b < 1043 → inRange H (unit (not (sign b)) (outward b)) ≡ readingOf H (ofBits binary64 b)
+  pub reads-near : (b : ℕ) → b < 2 * 2 ^ 63 → (b % 2 ^ 63 ≡ 0 → ⊥) → field b < 1043 → inRange k H (unit (not (sign b)) (outward b)) ≡ readingOf k H (ofBits binary64 b)
   reads-near b l h z =
-      sym (ap (readingOf H) (ofBits-is b)
+      sym (ap (readingOf k H) (ofBits-is b)
       ∙ fields-near (sign b) (field b) (b % 2 ^ 52) (mod-lt b (pow-pos 52)) z (some-digits b h)
-      ∙ ap (inRange H) (whole-index (sign b) (2 ^ 52 + b % 2 ^ 52) (2 ^ (1064 - field b)) (with-some (b % 2 ^ 52)))
-      ∙ ap (λ (q : ℕ). inRange H (unit (not (sign b)) (q / 2 ^ (1064 - field b)))) (less b l))
+      ∙ ap (inRange k H) (whole-index (sign b) (2 ^ 52 + b % 2 ^ 52) (2 ^ (1064 - field b)) (with-some (b % 2 ^ 52)))
+      ∙ ap (λ (q : ℕ). inRange k H (unit (not (sign b)) (q / 2 ^ (1064 - field b)))) (less b l))
 
   -- ---- what the body hands back: r is the outward index, below half or not
 
-  pub out : (s : Bool) (r : ℕ) → H ≤ r → Outside ≡ inRange H (unit s r)
-  out s r h = sym (beyond H (unit s r) (subst (λ (k : ℕ). H ≤ k) (sym (index-unit s r)) h))
+  pub out : (s : Bool) (r : ℕ) → H ≤ r → refused (refusal k 0) ≡ inRange k H (unit s r)
+  out s r h = sym (beyond k H (unit s r) (subst (λ (k : ℕ). H ≤ k) (sym (index-unit s r)) h))
 
-  within : (s : Bool) (r : ℕ) → r < H → Whole (unit s r) ≡ inRange H (unit s r)
-  within s r h = sym (inside H (unit s r) (subst (λ (k : ℕ). k < H) (sym (index-unit s r)) h))
+  within : (s : Bool) (r : ℕ) → r < H → accepted (unit s r) ≡ inRange k H (unit s r)
+  within s r h = sym (inside k H (unit s r) (subst (λ (k : ℕ). k < H) (sym (index-unit s r)) h))
 
-  pub east : (r : ℕ) → r < H → Whole (toZ w32 r) ≡ inRange H (pos r)
-  east r h = ap Whole (toZ-pos w32 r (lt-trans h few)) ∙ within true r h
+  pub east : (r : ℕ) → r < H → accepted (toZ w32 r) ≡ inRange k H (pos r)
+  east r h = ap accepted (toZ-pos w32 r (lt-trans h few)) ∙ within true r h
 
   step-down : (k : ℕ) → negsuc 0 -ℤ pos k ≡ negsuc k
   step-down zero = refl
@@ -247,5 +246,5 @@ module _ (H : ℕ) (some : 0 < H) (few : H < 2 ^ 31) where
   pub minus-fits : (r : ℕ) → r < H → SFits w32 (negsuc 0 -ℤ toZ w32 r)
   minus-fits r h = subst (λ (z : ℤ). SFits w32 z) (sym (is r h)) (record { sfits = lt-trans h few })
 
-  pub west : (r : ℕ) → r < H → Whole (toZ w32 (ofZ w32 (negsuc 0 -ℤ toZ w32 r))) ≡ inRange H (negsuc r)
-  west r h = ap Whole (toZ-ofZ w32 (negsuc 0 -ℤ toZ w32 r) (minus-fits r h) ∙ is r h) ∙ within false r h
+  pub west : (r : ℕ) → r < H → accepted (toZ w32 (ofZ w32 (negsuc 0 -ℤ toZ w32 r))) ≡ inRange k H (negsuc r)
+  west r h = ap accepted (toZ-ofZ w32 (negsuc 0 -ℤ toZ w32 r) (minus-fits r h) ∙ is r h) ∙ within false r h

@@ -53,7 +53,7 @@ answered-exactly-when x y a = (λ h. subst (Why x y) h (why x y), so x y a)
 
 -- exact arc-seconds of units in the ranges read as those units
 pub units-back : (u v : ℤ) (x y : Float) → index u < HALF → index v < QUARTER → SecondsOf u x → SecondsOf v y → unitsOf x y ≡ accepted (units u v)
-units-back u v x y a b p q = both-whole x y u v (seconds-whole HALF u x a p) (seconds-whole QUARTER v y b q)
+units-back u v x y a b p q = both-whole x y u v (seconds-whole 2 HALF u x a p) (seconds-whole 3 QUARTER v y b q)
 
 -- a box that a plane code gets has the west and south of the code's cell, which read back as the same units
 pub box-back : (w : List ℕ) (b : ArcBox) → BoxSays (cellOf w) (Found b) → (c : Cell) × (cellOf w ≡ accepted c) × (unitsOf (b .west) (b .south) ≡ accepted (units (c .west) (c .south)))

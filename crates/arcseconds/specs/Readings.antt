@@ -12,8 +12,6 @@ use Rattle.grid.specs.Answers.{Answer, accepted, refused, refusal}
 use Rattle.arcseconds.specs.declared.Units.{Units}
 use Rattle.arcseconds.specs.declared.UnitsRead.{UnitsRead}
 use Rattle.arcseconds.specs.declared.UnitsRead.the-variants.{Found, Refused}
-use Rattle.arcseconds.specs.declared.Reading.{Reading}
-use Rattle.arcseconds.specs.declared.Reading.the-variants.{Whole, Outside}
 
 -- the greatest whole number not above n / d, or not above - n / d where s is true
 abbrev pub greatestWhole : Bool → ℕ → ℕ → ℤ
@@ -21,29 +19,30 @@ greatestWhole false n d = pos (n / d)
 greatestWhole true zero d = pos 0
 greatestWhole true (suc n) d = negsuc (n / d)
 
--- a unit number in a range that ends half units either way from 0
-abbrev pub inRange : ℕ → ℤ → Reading
-inRange half u = cond (ltb (index u) half) (Whole u) Outside
+-- a unit number in a range that ends half units either way from 0, or refusal n
+abbrev pub inRange : ℕ → ℕ → ℤ → Answer ℤ
+inRange n half u = cond (ltb (index u) half) (accepted u) (refused (refusal n 0))
 
--- one reading: the greatest whole units not above 2048 times it; either infinity is outside every range
-unfoldable pub readingOf : ℕ → Float → Reading
-readingOf half nan = Outside
-readingOf half (inf s) = Outside
-readingOf half (fin s m e) = inRange half (greatestWhole s (2048 * (m * up e)) (down e))
+-- one reading: the greatest whole units not above 2048 times it, or refusal n; either infinity is outside every range
+unfoldable pub readingOf : ℕ → ℕ → Float → Answer ℤ
+readingOf n half nan = refused (refusal n 0)
+readingOf n half (inf s) = refused (refusal n 0)
+readingOf n half (fin s m e) = inRange n half (greatestWhole s (2048 * (m * up e)) (down e))
 
 -- a position in whole units
 abbrev pub units : ℤ → ℤ → Units
 units u v = record { longitude = u; latitude = v }
 
--- 2: longitude outside its range, then 3: latitude outside its range
-unfoldable pub unitsAt : Reading → Reading → Answer Units
-unitsAt Outside y = refused (refusal 2 0)
-unitsAt (Whole u) Outside = refused (refusal 3 0)
-unitsAt (Whole u) (Whole v) = accepted (units u v)
+-- the longitude's refusal, then the latitude's, else the position
+unfoldable pub unitsAt : Answer ℤ → Answer ℤ → Answer Units
+unitsAt (refused r) y = refused r
+unitsAt (accepted u) (refused r) = refused r
+unitsAt (accepted u) (accepted v) = accepted (units u v)
 
--- 11: either reading is not a number; then 2, then 3
+-- 11: either reading is not a number; then 2: longitude outside its range; then 3: latitude outside its range
 unfoldable pub unitsOf : Float → Float → Answer Units
-unitsOf x y = cond (isNan x || isNan y) (refused (refusal 11 0)) (unitsAt (readingOf HALF x) (readingOf QUARTER y))
+unitsOf x y =
+    cond (isNan x || isNan y) (refused (refusal 11 0)) (unitsAt (readingOf 2 HALF x) (readingOf 3 QUARTER y))
 
 -- the answer in the paper's numbers: the units, or the refusal
 abbrev pub unitsRead : UnitsRead → Answer Units

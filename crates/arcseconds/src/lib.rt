@@ -3,7 +3,7 @@
 
 ghost use mathlib.Core.Path.{_≡_};
 ghost use mathlib.Core.Bool.{not};
-ghost use Prim.Native.Nat.{_-_, _/_, _^_, _<_};
+ghost use Prim.Native.Nat.{ℕ, _-_, _/_, _^_, _<_};
 ghost use lib.Dec.{T};
 ghost use lib.IntN.{pos};
 ghost use lib.Ieee.{isNan};
@@ -11,6 +11,7 @@ ghost use Rattle.grid.specs.Answers.{refused, refusal, planeRead};
 ghost use Rattle.grid.specs.Plane.{cellOf};
 ghost use Rattle.arcseconds.specs.Readings.{readingOf, unitsAt, unitsOf, unitsRead};
 ghost use Rattle.arcseconds.specs.Boxes.{Exactly, BoxOf, BoxSays};
+ghost use Rattle.arcseconds.specs.inner.Axis.{readingAnswer};
 use grid::Cell;
 use grid::PlaneRead;
 use grid::Refusal;
@@ -53,7 +54,7 @@ fn shifted(d: u64, exponent: u64) -> u64
 // Below 0 the index comes from the digits less one, so that a reading of whole units keeps them.
 fn axis(x: f64, half: u64) -> Reading
     requires { ⌜ T (not (isNan x)) × (0 < half) × (half < 2 ^ 31) ⌝ }
-    ensures { λ r. ⌜ r ≡ readingOf half x ⌝ }
+    ensures { λ r. ⌜ ((n : ℕ) → readingAnswer n r ≡ readingOf n half x) ⌝ }
 {
     let bits: u64 = f64::to_bits(x);
     let size: u64 = bits % 0x8000_0000_0000_0000;
@@ -89,7 +90,7 @@ fn refuse(number: u32) -> UnitsRead
 
 // Two readings that are numbers: 2, then 3.
 fn position(longitude: Reading, latitude: Reading) -> UnitsRead
-    ensures { λ r. ⌜ unitsRead r ≡ unitsAt longitude latitude ⌝ }
+    ensures { λ r. ⌜ unitsRead r ≡ unitsAt (readingAnswer 2 longitude) (readingAnswer 3 latitude) ⌝ }
 {
     match longitude {
         Reading::Outside => refuse(2),

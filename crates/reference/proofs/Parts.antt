@@ -27,8 +27,8 @@ use Rattle.grid.specs.Plane.{longitudeAt, codeOf}
 use Rattle.grid.proofs.Cut.{clash, and-true}
 use Rattle.grid.proofs.PlaneLaws.{index-unit, index-longitudeAt}
 use Rattle.reference.specs.Offsets.{offsetDigit, movedTo, between, spanIn, spanOf}
-use Rattle.reference.specs.Text.{fit, eastSpan, northSpan, referenceCode, spelled, spanned, targetSquare, targetOf, aimed}
-use Rattle.reference.specs.Parts.{Known, Steps}
+use Rattle.reference.specs.Text.{fit, eastSpan, northSpan, referenceCode, spelled, spanned, targetSquare, targetOf, aimed, ledTo}
+use Rattle.reference.specs.inner.Parts.{Known, Steps}
 use Rattle.reference.proofs.Numbers.{around-below, moved-below, digit-ways, digit-fits, onward, up-to-seven, at-least-one, moved-on}
 use Rattle.reference.proofs.Corners.{fit-of}
 
@@ -243,18 +243,18 @@ module _ (b : Cell) (m n : ℕ) where
 -- ---- the hyphen, M and N
 
 module _ (b : Cell) (k h m n : ℕ) where
-  pub no-hyphen : {r : Refusal} → (h ≡ 45 → ⊥) → r ≡ wrongCharacter k → refuse r ≡ aimed k h m n (accepted b)
+  pub no-hyphen : {r : Refusal} → (h ≡ 45 → ⊥) → r ≡ wrongCharacter k → refuse r ≡ ledTo (aimed k h m n (accepted b))
   unfolding aimed
   no-hyphen d q = rw (q, ne-eqb h 45 d) refl
 
-  pub no-east : {u : ℕ} {r : Refusal} → h ≡ 45 → u ≡ digitOf m → false ≡ offsetDigit u → r ≡ wrongCharacter (k + 1) → refuse r ≡ aimed k h m n (accepted b)
+  pub no-east : {u : ℕ} {r : Refusal} → h ≡ 45 → u ≡ digitOf m → false ≡ offsetDigit u → r ≡ wrongCharacter (k + 1) → refuse r ≡ ledTo (aimed k h m n (accepted b))
   unfolding aimed
   no-east d e f q = rw (q, eq-eqb h 45 d, ← e, ← f) refl
 
-  pub no-north : {u v : ℕ} {r : Refusal} → h ≡ 45 → u ≡ digitOf m → true ≡ offsetDigit u → v ≡ digitOf n → false ≡ offsetDigit v → r ≡ wrongCharacter (k + 2) → refuse r ≡ aimed k h m n (accepted b)
+  pub no-north : {u v : ℕ} {r : Refusal} → h ≡ 45 → u ≡ digitOf m → true ≡ offsetDigit u → v ≡ digitOf n → false ≡ offsetDigit v → r ≡ wrongCharacter (k + 2) → refuse r ≡ ledTo (aimed k h m n (accepted b))
   unfolding aimed
   no-north d e f g i q = rw (q, eq-eqb h 45 d, ← e, ← g, ← f, ← i) refl
 
-  pub offset-read : {u v : ℕ} {x : Text} → h ≡ 45 → u ≡ digitOf m → true ≡ offsetDigit u → v ≡ digitOf n → true ≡ offsetDigit v → x ≡ targetOf b u v → x ≡ aimed k h m n (accepted b)
+  pub offset-read : {u v : ℕ} {x : Text} → h ≡ 45 → u ≡ digitOf m → true ≡ offsetDigit u → v ≡ digitOf n → true ≡ offsetDigit v → x ≡ targetOf b u v → x ≡ ledTo (aimed k h m n (accepted b))
   unfolding aimed
   offset-read d e f g i q = rw (eq-eqb h 45 d, ← e, ← g, ← f, ← i) q

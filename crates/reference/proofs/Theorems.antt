@@ -25,9 +25,10 @@ use Rattle.grid.specs.Plane.{longitudeAt, codeOf, cellOf}
 use Rattle.grid.proofs.Cut.{clash, and-true}
 use Rattle.grid.proofs.Characters.{digit-char, char-digit}
 use Rattle.reference.specs.Offsets.{offsetDigit, movedTo, moved}
-use Rattle.reference.specs.Text.{fit, eastSpan, northSpan, referenceCode, spelled, spanned, related, referenceText, targetSquare, targetOf, unlessAt, aimed, targetText, southAfter, MovedBy, Leads}
+use Rattle.reference.specs.Text.{fit, eastSpan, northSpan, referenceCode, spelled, spanned, related, referenceText, targetSquare, targetOf, Aim, aimOf, ledTo, targetText, southAfter, MovedBy, Formed, Leads}
 use Rattle.reference.proofs.Numbers.{longitudeAt-around, around-moved, digit-fits, moved-sum, span-of-moved, span-leads}
 use Rattle.reference.proofs.Corners.{Fit, fit-of, to-fit, corner, corner-code, Target, target}
+use Rattle.reference.proofs.Spelling.{formed, formed-start, read-formed, formed-of}
 
 -- ---- what a text that is written says of the tests before it
 
@@ -37,10 +38,6 @@ text-inj e = cc
 unless-text : (q : Bool) (n : ℕ) (t : Text) (w : List ℕ) → unless q n t ≡ text w → (q ≡ true) × (t ≡ text w)
 unless-text true n t w e = (refl, e)
 unless-text false n t w e = clash (cc)
-
-unless-at-text : (q : Bool) (p : ℕ) (t : Text) (w : List ℕ) → unlessAt q p t ≡ text w → (q ≡ true) × (t ≡ text w)
-unless-at-text true p t w e = (refl, e)
-unless-at-text false p t w e = clash (cc)
 
 -- the writer gives the reference code r
 record Spanned (w : List ℕ) (b t : Cell) (r : List ℕ) : Type 0 where
@@ -86,92 +83,6 @@ related-of w (refused q) y r e = clash (cc)
 related-of w (accepted b) (refused q) r e = clash (cc)
 related-of w (accepted b) (accepted t) r e = record { base = b; target = t; read-base = refl; read-target = refl; spans = spanned-of w b t r e }
 
--- the reader gives the target's code t
-record Aimed (h m n : ℕ) (x : Answer Cell) (t : List ℕ) : Type 0 where
-  base : Cell
-  read-base : x ≡ accepted base
-  hyphen : h ≡ 45
-  east : offsetDigit (digitOf m) ≡ true
-  north : offsetDigit (digitOf n) ≡ true
-  fit-base : fit base ≡ true
-  away : index (targetSquare base (digitOf m) (digitOf n) .latitude) < 648806400
-  same : codeOf (base .level) (targetSquare base (digitOf m) (digitOf n)) ≡ t
-
-aimed-of : (k h m n : ℕ) (x : Answer Cell) (t : List ℕ) → aimed k h m n x ≡ text t → Aimed h m n x t
-unfolding aimed targetOf
-aimed-of k h m n (refused q) t e = clash (cc)
-aimed-of k h m n (accepted b) t e =
-    let p = unless-at-text (eqb h 45) k _ t e in
-    let q = unless-at-text (offsetDigit (digitOf m)) (k + 1) _ t (p .1) in
-    let r = unless-at-text (offsetDigit (digitOf n)) (k + 2) _ t (q .1) in
-    let f = unless-text (fit b) 8 _ t (r .1) in
-    let a = unless-text (ltb (index (targetSquare b (digitOf m) (digitOf n) .latitude)) POLAR) 12 _ t (f .1) in
-    record {
-      base = b;
-      read-base = refl;
-      hyphen = eqb-true h 45 (p .0);
-      east = q .0;
-      north = r .0;
-      fit-base = f .0;
-      away = ltb-true _ POLAR (a .0);
-      same = text-inj (a .1);
-    }
-
--- ---- a code and three characters behind it
-
-getD-behind : (w : List ℕ) (h m n i : ℕ) → getD (w ++ (h ∷ m ∷ n ∷ [])) (length w + i) 0 ≡ getD (h ∷ m ∷ n ∷ []) i 0
-getD-behind w h m n i = getD-append-add w (h ∷ m ∷ n ∷ []) i 0
-
-base-length : (w : List ℕ) (h m n : ℕ) → length (w ++ (h ∷ m ∷ n ∷ [])) - 3 ≡ length w
-base-length w h m n = ap (λ (i : ℕ). i - 3) (length-append w (h ∷ m ∷ n ∷ [])) ∙ (let z : length w + 3 - 3 ≡ length w = omega arith in z)
-
-read-behind : (w : List ℕ) (h m n : ℕ) → targetText (w ++ (h ∷ m ∷ n ∷ [])) ≡ aimed (length w) h m n (cellOf w)
-unfolding targetText
-read-behind w h m n =
-    let r = w ++ (h ∷ m ∷ n ∷ []) in
-    let l : length r - 3 ≡ length w = base-length w h m n in
-    let a : getD r (length w) 0 ≡ h = ap (λ (i : ℕ). getD r i 0) (sym (add-zero (length w))) ∙ getD-behind w h m n 0 in
-    rw (l, a, getD-behind w h m n 1, getD-behind w h m n 2, take-at w (h ∷ m ∷ n ∷ []) (length w) refl) refl
-
--- a base, a hyphen and two offset characters are read
-read-code : (w : List ℕ) (b : Cell) (m n : ℕ) → cellOf w ≡ accepted b → offsetDigit m ≡ true → offsetDigit n ≡ true → targetText (referenceCode w m n) ≡ targetOf b m n
-unfolding aimed
-read-code w b m n e hm hn =
-    let lm : m ≤ 16 = digit-fits m hm in
-    let ln : n ≤ 16 = digit-fits n hn in
-    read-behind w 45 (charOf m) (charOf n) ∙ rw (e, digit-char m (omega arith), digit-char n (omega arith), hm, hn) refl
-
-three-behind : (w : List ℕ) (k : ℕ) → k + 3 ≡ length w → take k w ++ (getD w k 0 ∷ getD w (k + 1) 0 ∷ getD w (k + 2) 0 ∷ []) ≡ w
-three-behind w k h =
-    let one : k + 1 ≡ suc k = omega arith in
-    let two : k + 2 ≡ suc (suc k) = omega arith in
-    let none : drop (suc (suc (suc k))) w ≡ [] = drop-of-length-le w {i = suc (suc (suc k))} (omega arith) in
-    let last : drop k w ≡ getD w k 0 ∷ getD w (k + 1) 0 ∷ getD w (k + 2) 0 ∷ [] =
-    rw (one, two, drop-cons w k 0 (omega arith), drop-cons w (suc k) 0 (omega arith), drop-cons w (suc (suc k)) 0 (omega arith), none) refl in
-    ap (λ (x : List ℕ). take k w ++ x) (sym last) ∙ take-append-drop k w
-
--- no reference code has fewer than three characters
-empty-refused : cellOf [] ≡ refused wrongLength
-unfolding cellOf readIn
-empty-refused = refl
-
-pub too-short : (w : List ℕ) {r : Refusal} → length w < 3 → r ≡ wrongLength → refuse r ≡ targetText w
-unfolding targetText aimed
-too-short w h q =
-    let z : length w - 3 ≡ 0 = omega arith in
-    rw (q, z, empty-refused) refl
-
-long-enough : (w : List ℕ) (b : Cell) → cellOf (take (length w - 3) w) ≡ accepted b → length w - 3 + 3 ≡ length w
-long-enough w b e = go (leb 3 (length w)) refl
-  where
-    go : (q : Bool) → leb 3 (length w) ≡ q → length w - 3 + 3 ≡ length w
-    go true p = let h : 3 ≤ length w = leb-true 3 (length w) p in omega arith
-    go false p =
-        let h : length w < 3 = leb-false 3 (length w) p in
-        let z : length w - 3 ≡ 0 = omega arith in
-        let r : cellOf (take (length w - 3) w) ≡ refused wrongLength = ap (λ (i : ℕ). cellOf (take i w)) z ∙ empty-refused in
-        clash (cc)
-
 -- ---- 1: what the writer writes the reader reads back as the target, byte for byte
 
 module _ (b t : Cell) (fb : Fit b) (ft : Fit t) (l : b .level ≡ t .level) (he : eastSpan b t ≤ 16) (hn : northSpan b t ≤ 16) where
@@ -204,7 +115,7 @@ module _ (b t : Cell) (fb : Fit b) (ft : Fit t) (l : b .level ≡ t .level) (he 
       (rw (lt-ltb (index (t .south)) POLAR (ft .south-in), l) (ap text (sym (corner-code w t e ft)))))
 
 pub written-read : (base goal w : List ℕ) → referenceText base goal ≡ text w → targetText w ≡ text goal
-unfolding referenceText
+unfolding referenceText targetText
 written-read base goal w e =
     let r = related-of base (cellOf base) (cellOf goal) w e in
     let b = r .base in
@@ -217,7 +128,7 @@ written-read base goal w e =
     let a = east-leads b t fb ft (s .level) he hn in
     let c = north-leads b t fb ft (s .level) he hn in
     ap targetText (sym (s .same))
-    ∙ read-code base b (eastSpan b t) (northSpan b t) (r .read-base) (a .0) (c .0)
+    ∙ ap ledTo (read-formed _ (formed base b (eastSpan b t) (northSpan b t) (r .read-base) (a .0) (c .0)))
     ∙ leads-text b t fb ft (s .level) he hn goal (r .read-target)
 
 -- ---- 2: a reference code that the reader accepts is the one that the writer gives for its base and its target
@@ -263,40 +174,30 @@ module _ (b : Cell) (m n : ℕ) (f : Fit b) (hm : offsetDigit m ≡ true) (hn : 
 
 -- what the reader's text says of the code
 record Taken (w goal : List ℕ) : Type 0 where
-  base : List ℕ
-  from : Cell
-  m : ℕ
-  n : ℕ
-  start : take (length w - 3) w ≡ base
-  form : referenceCode base m n ≡ w
-  read-base : cellOf base ≡ accepted from
-  fits : Fit from
-  east : offsetDigit m ≡ true
-  north : offsetDigit n ≡ true
-  away : index (targetSquare from m n .latitude) < 648806400
-  same : codeOf (from .level) (targetSquare from m n) ≡ goal
+  formed : Formed w
+  starts : take (length w - 3) w ≡ formed .base
+  fits : Fit (formed .from)
+  away : index (targetSquare (formed .from) (formed .m) (formed .n) .latitude) < 648806400
+  same : codeOf (formed .from .level) (targetSquare (formed .from) (formed .m) (formed .n)) ≡ goal
 
 taken : (w goal : List ℕ) → targetText w ≡ text goal → Taken w goal
-unfolding targetText
-taken w goal e =
-    let k = length w - 3 in
-    let a = aimed-of k (getD w k 0) (getD w (k + 1) 0) (getD w (k + 2) 0) (cellOf (take k w)) goal e in
-    let lm : digitOf (getD w (k + 1) 0) ≤ 16 = digit-fits _ (a .east) in
-    let ln : digitOf (getD w (k + 2) 0) ≤ 16 = digit-fits _ (a .north) in
-    record {
-      base = take k w;
-      from = a .base;
-      m = digitOf (getD w (k + 1) 0);
-      n = digitOf (getD w (k + 2) 0);
-      start = refl;
-      form = rw (char-digit (getD w (k + 1) 0) (omega arith), char-digit (getD w (k + 2) 0) (omega arith), ← a .hyphen) (three-behind w k (long-enough w (a .base) (a .read-base)));
-      read-base = a .read-base;
-      fits = fit-of (take k w) (a .base) (a .read-base) (a .fit-base);
-      east = a .east;
-      north = a .north;
-      away = a .away;
-      same = a .same;
-    }
+unfolding targetText targetOf
+taken w goal e = go (aimOf w) refl e
+  where
+    go : (x : Answer Aim) → aimOf w ≡ x → ledTo x ≡ text goal → Taken w goal
+    go (refused r) q e = clash (cc)
+    go (accepted a) q e =
+        let g = formed-of w a q in
+        let f = g .0 in
+        let b = unless-text (fit (f .from)) 8 _ goal (subst (λ (x : Aim). ledTo (accepted x) ≡ text goal) (sym (g .1)) e) in
+        let c = unless-text (ltb (index (targetSquare (f .from) (f .m) (f .n) .latitude)) POLAR) 12 _ goal (b .1) in
+        record {
+          formed = f;
+          starts = formed-start w f;
+          fits = fit-of (f .base) (f .from) (f .read-base) (b .0);
+          away = ltb-true _ POLAR (c .0);
+          same = text-inj (c .1);
+        }
 
 -- the writer's text for two cells that were read
 related-read : (w : List ℕ) (x y : Answer Cell) (b t : Cell) → x ≡ accepted b → y ≡ accepted t → related w x y ≡ spanned w b t
@@ -306,32 +207,27 @@ pub read-written : (w goal : List ℕ) → targetText w ≡ text goal → refere
 unfolding referenceText
 read-written w goal e =
     let a = taken w goal e in
-    let t = reached (a .from) (a .m) (a .n) (a .fits) (a .east) (a .north) (a .away) in
-    ap (λ (x : List ℕ). referenceText x goal) (a .start)
-    ∙ related-read (a .base) (cellOf (a .base)) (cellOf goal) (a .from) (t .cell) (a .read-base) (ap cellOf (sym (a .same)) ∙ t .read)
-    ∙ reached-spanned (a .from) (a .m) (a .n) (a .fits) (a .east) (a .north) (a .away) (a .base)
-    ∙ ap text (a .form)
+    let f = a .formed in
+    let t = reached (f .from) (f .m) (f .n) (a .fits) (f .east) (f .north) (a .away) in
+    ap (λ (x : List ℕ). referenceText x goal) (a .starts)
+    ∙ related-read (f .base) (cellOf (f .base)) (cellOf goal) (f .from) (t .cell) (f .read-base) (ap cellOf (sym (a .same)) ∙ t .read)
+    ∙ reached-spanned (f .from) (f .m) (f .n) (a .fits) (f .east) (f .north) (a .away) (f .base)
+    ∙ ap text (f .form)
 
 -- ---- 3: the reader accepts a code exactly when it is a base, a hyphen and an offset that leads to a target; and that is what it writes
 
 leads-of : (w goal : List ℕ) → targetText w ≡ text goal → Leads w goal
 leads-of w goal e =
     let a = taken w goal e in
-    let t = reached (a .from) (a .m) (a .n) (a .fits) (a .east) (a .north) (a .away) in
+    let f = a .formed in
+    let t = reached (f .from) (f .m) (f .n) (a .fits) (f .east) (f .north) (a .away) in
     record {
-      base = a .base;
-      from = a .from;
+      formed = f;
       to = t .cell;
-      m = a .m;
-      n = a .n;
-      form = a .form;
-      east = a .east;
-      north = a .north;
-      read-base = a .read-base;
       read-goal = ap cellOf (sym (a .same)) ∙ t .read;
-      fit-base = to-fit (a .from) (a .fits);
+      fit-base = to-fit (f .from) (a .fits);
       fit-goal = to-fit (t .cell) (t .fit);
-      moves = reached-moved (a .from) (a .m) (a .n) (a .fits) (a .east) (a .north) (a .away);
+      moves = reached-moved (f .from) (f .m) (f .n) (a .fits) (f .east) (f .north) (a .away);
     }
 
 -- a base moved to a target: the square that is read is the target's corner
@@ -347,10 +243,11 @@ moved-text b t m n w fb ft hm hn v e =
     (rw (lt-ltb (index (t .south)) POLAR (ft .south-in), ← v .level) (ap text (sym (corner-code w t e ft)))))
 
 of-leads : (w goal : List ℕ) → Leads w goal → targetText w ≡ text goal
+unfolding targetText
 of-leads w goal l =
-    ap targetText (sym (l .form))
-    ∙ read-code (l .base) (l .from) (l .m) (l .n) (l .read-base) (l .east) (l .north)
-    ∙ moved-text (l .from) (l .to) (l .m) (l .n) goal (fit-of (l .base) (l .from) (l .read-base) (l .fit-base)) (fit-of goal (l .to) (l .read-goal) (l .fit-goal)) (l .east) (l .north) (l .moves) (l .read-goal)
+    let f = l .formed in
+    ap ledTo (read-formed w f)
+    ∙ moved-text (f .from) (l .to) (f .m) (f .n) goal (fit-of (f .base) (f .from) (f .read-base) (l .fit-base)) (fit-of goal (l .to) (l .read-goal) (l .fit-goal)) (f .east) (f .north) (l .moves) (l .read-goal)
 
 pub leads-exactly-when : (w goal : List ℕ) → (targetText w ≡ text goal) ↔ Leads w goal
 leads-exactly-when w goal = (leads-of w goal, of-leads w goal)
@@ -359,12 +256,12 @@ leads-exactly-when w goal = (leads-of w goal, of-leads w goal)
 
 module _ (base : List ℕ) (b : Cell) (m n : ℕ) (e : cellOf base ≡ accepted b) (f : fit b ≡ true) (hm : offsetDigit m ≡ true) (hn : offsetDigit n ≡ true) where
   by-latitude : targetText (referenceCode base m n) ≡ unless (ltb (index (southAfter b n)) POLAR) 12 (text (codeOf (b .level) (targetSquare b m n)))
-  unfolding targetOf
+  unfolding targetText targetOf
   by-latitude =
       let F = fit-of base b e f in
       let N = F .north in
       let y : moved (b .height) n (b .south) ≡ southAfter b n = moved-sum (b .height) (N .some) (N .small) n (b .south) hn (F .south-in) in
-      read-code base b m n e hm hn
+      ap ledTo (read-formed _ (formed base b m n e hm hn))
       ∙ rw f (ap (λ (z : ℤ). unless (ltb (index z) POLAR) 12 (text (codeOf (b .level) (targetSquare b m n)))) y)
 
   pub target-exactly-when : ((goal : List ℕ) × (targetText (referenceCode base m n) ≡ text goal)) ↔ (index (southAfter b n) < POLAR)
@@ -407,14 +304,13 @@ module _ (base goal : List ℕ) (b t : Cell) (eb : cellOf base ≡ accepted b) (
         south = sym (y .1) ∙ moved-sum (b .height) (N .some) (N .small) (northSpan b t) (b .south) (y .0) (fb .south-in);
       }
 
-  -- a code that leads from the base to the target is what the writer writes
-  offset-written : (m n : ℕ) → offsetDigit m ≡ true → offsetDigit n ≡ true → MovedBy b t m n → referenceText base goal ≡ text (referenceCode base m n)
+  -- any offset that leads from the base to the target is the one written
+  pub offset-written : (m n : ℕ) → offsetDigit m ≡ true → offsetDigit n ≡ true → MovedBy b t m n → referenceText base goal ≡ text (referenceCode base m n)
   offset-written m n hm hn v =
       let r = referenceCode base m n in
-      let e = of-leads r goal (record { base = base; from = b; to = t; m = m; n = n; form = refl; east = hm; north = hn; read-base = eb; read-goal = et; fit-base = f; fit-goal = g; moves = v }) in
-      let k : length r - 3 ≡ length base = base-length base 45 (charOf m) (charOf n) in
-      let s : take (length r - 3) r ≡ base = ap (λ (i : ℕ). take i r) k ∙ take-at base (45 ∷ charOf m ∷ charOf n ∷ []) (length base) refl in
-      ap (λ (x : List ℕ). referenceText x goal) (sym s) ∙ read-written r goal e
+      let d = formed base b m n eb hm hn in
+      let e = of-leads r goal (record { formed = d; to = t; read-goal = et; fit-base = f; fit-goal = g; moves = v }) in
+      ap (λ (x : List ℕ). referenceText x goal) (sym (formed-start r d)) ∙ read-written r goal e
 
   pub beyond-exactly-when : (referenceText base goal ≡ refuse (refusal 10 0)) ↔ ((m n : ℕ) → offsetDigit m ≡ true → offsetDigit n ≡ true → MovedBy b t m n → ⊥)
   unfolding spelled

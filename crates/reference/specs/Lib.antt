@@ -1,3 +1,3 @@
 pub mod Offsets
 pub mod Text
-pub mod Parts
+pub mod inner

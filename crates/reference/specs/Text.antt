@@ -21,17 +21,13 @@ use Rattle.reference.specs.Offsets.{offsetDigit, offset, moved, spanOf}
 abbrev pub HYPHEN : ℕ
 HYPHEN = 45
 
--- south of 88° north and north of 88° south
-abbrev pub ordinary : Cell → Bool
-ordinary c = ltb (index (c .south)) POLAR
-
--- a base or a target: level 5 or finer, and ordinary
+-- a base or a target: level 5 or finer, and ordinary, which is south of 88° north and north of 88° south
 unfoldable pub fit : Cell → Bool
-fit c = leb 5 (c .level) && ordinary c
+fit c = leb 5 (c .level) && ltb (index (c .south)) POLAR
 
 -- ---- from base and target to reference code
 
--- M and N: cells east, and cells north
+-- M: cells east
 abbrev pub eastSpan : Cell → Cell → ℕ
 eastSpan b t = spanOf (b .width) (b .west) (t .west)
 
@@ -78,28 +74,54 @@ targetOf b m n =
     unless (fit b) 8
     (unless (ltb (index (targetSquare b m n .latitude)) POLAR) 12 (text (codeOf (b .level) (targetSquare b m n))))
 
--- 7 where the test of the character at place p fails, else go on
-abbrev pub unlessAt : Bool → ℕ → Text → Text
-unlessAt true p t = t
-unlessAt false p t = refuse (wrongCharacter p)
+-- a base's cell, M and N
+pub record Aim : Type 0 where
+  pub from : Cell
+  pub m : ℕ
+  pub n : ℕ
 
--- the base, k bytes long, is read; then come the three characters h, m and n
-unfoldable pub aimed : ℕ → ℕ → ℕ → ℕ → Answer Cell → Text
-aimed k h m n (refused r) = refuse r
+-- 7 where the test of the character at place p fails, else go on
+abbrev pub unlessAt : Bool → ℕ → Answer Aim → Answer Aim
+unlessAt true p a = a
+unlessAt false p a = refused (wrongCharacter p)
+
+-- the base, k bytes long, is read; then come the hyphen and two offset digits, as the three characters h, m and n
+unfoldable pub aimed : ℕ → ℕ → ℕ → ℕ → Answer Cell → Answer Aim
+aimed k h m n (refused r) = refused r
 aimed k h m n (accepted b) =
     unlessAt (eqb h HYPHEN) k
     (unlessAt (offsetDigit (digitOf m)) (k + 1)
-    (unlessAt (offsetDigit (digitOf n)) (k + 2) (targetOf b (digitOf m) (digitOf n))))
+    (unlessAt (offsetDigit (digitOf n)) (k + 2) (accepted (record { from = b; m = digitOf m; n = digitOf n }))))
 
 -- what the base's length k makes of a reference code
-abbrev pub aimedAt : List ℕ → ℕ → Text
+abbrev pub aimedAt : List ℕ → ℕ → Answer Aim
 aimedAt w k = aimed k (getD w k 0) (getD w (k + 1) 0) (getD w (k + 2) 0) (cellOf (take k w))
 
--- what the reader is to write: 6 where the total less 3 is no plane length, 7, 8, 12 in that order, else the target's plane code
-unfoldable pub targetText : List ℕ → Text
-targetText w = aimedAt w (length w - 3)
+-- the base, M and N of a reference code; 6 where the total less 3 is no plane length, or 7 with its place in the whole code
+abbrev pub aimOf : List ℕ → Answer Aim
+aimOf w = aimedAt w (length w - 3)
 
--- ---- what an offset means
+-- 6 or 7, else what base, M and N lead to
+abbrev pub ledTo : Answer Aim → Text
+ledTo (refused r) = refuse r
+ledTo (accepted a) = targetOf (a .from) (a .m) (a .n)
+
+-- what the reader is to write: 6, 7, 8, 12 in that order, else the target's plane code
+unfoldable pub targetText : List ℕ → Text
+targetText w = ledTo (aimOf w)
+
+-- ---- what a reference code and its offset mean
+
+-- w is a reference code, wherever it leads: an accepted plane code, which is its base's, a hyphen, and M and N, each 0 to 7 or A to G
+pub record Formed (w : List ℕ) : Type 0 where
+  pub base : List ℕ
+  pub from : Cell
+  pub m : ℕ
+  pub n : ℕ
+  pub form : referenceCode base m n ≡ w
+  pub read-base : cellOf base ≡ accepted from
+  pub east : offsetDigit m ≡ true
+  pub north : offsetDigit n ≡ true
 
 -- the south edge of b, n heights northward
 abbrev pub southAfter : Cell → ℕ → ℤ
@@ -113,19 +135,12 @@ pub record MovedBy (b d : Cell) (m n : ℕ) : Type 0 where
   pub west : around (d .west) ≡ around (b .west +ℤ offset m *ℤ pos (b .width))
   pub south : d .south ≡ southAfter b n
 
--- the reference code w leads to the plane code goal: w is the code of a base, a hyphen, M and N, and goal is the code of the base's cell
--- moved by them; both are ordinary and of level 5 or finer
+-- the reference code w leads to the plane code goal, which is the code of the base's cell moved by M and N;
+-- both are ordinary and of level 5 or finer
 pub record Leads (w goal : List ℕ) : Type 0 where
-  pub base : List ℕ
-  pub from : Cell
+  pub formed : Formed w
   pub to : Cell
-  pub m : ℕ
-  pub n : ℕ
-  pub form : referenceCode base m n ≡ w
-  pub east : offsetDigit m ≡ true
-  pub north : offsetDigit n ≡ true
-  pub read-base : cellOf base ≡ accepted from
   pub read-goal : cellOf goal ≡ accepted to
-  pub fit-base : fit from ≡ true
+  pub fit-base : fit (formed .from) ≡ true
   pub fit-goal : fit to ≡ true
-  pub moves : MovedBy from to m n
+  pub moves : MovedBy (formed .from) to (formed .m) (formed .n)

@@ -15,8 +15,8 @@ ghost use Rattle.grid.specs.Laying.{text, laid, written};
 ghost use Rattle.grid.specs.Plane.{longitudeAt};
 ghost use Rattle.plane.specs.Text.{askedText, Fitting};
 ghost use Rattle.reference.specs.Offsets.{offsetDigit, movedTo, between, spanIn, spanOf};
-ghost use Rattle.reference.specs.Text.{fit, referenceCode, ofSecond, spelled, spanned, related, referenceText, targetSquare, targetOf, aimed, targetText};
-ghost use Rattle.reference.specs.Parts.{offsetText, Small, Known, Reading, Steps};
+ghost use Rattle.reference.specs.Text.{fit, referenceCode, ofSecond, spelled, spanned, related, referenceText, targetSquare, targetOf, aimed, ledTo, targetText};
+ghost use Rattle.reference.specs.inner.Parts.{offsetText, Small, Known, AsRead, Steps};
 use grid::Cell;
 use grid::HALF;
 use grid::POLAR;
@@ -154,7 +154,7 @@ fn spans_to(b: Cell, t: PlaneRead) -> Offset
 
 // The base's 6 or 7, then the target's, else what lies between the two.
 fn relate(b: PlaneRead, t: PlaneRead) -> Offset
-    requires { ⌜ Reading b ⌝ }
+    requires { ⌜ AsRead b ⌝ }
     ensures { λ r. ⌜ ((w : List ℕ) → offsetText r w ≡ related w (planeRead b) (planeRead t)) × Small r ⌝ }
 {
     match b {
@@ -257,7 +257,7 @@ fn wrong(place: usize) -> Refusal
 // The hyphen at place k, M and N: refusal 7, else what they lead to.
 fn offset_from(b: Cell, k: usize, h: u8, m: u8, n: u8) -> Asked
     requires { ⌜ Known b × (k < 18446744073709551613) ⌝ }
-    ensures { λ r. ⌜ (askedText r ≡ aimed k h m n (accepted b)) × Fitting r ⌝ }
+    ensures { λ r. ⌜ (askedText r ≡ ledTo (aimed k h m n (accepted b))) × Fitting r ⌝ }
 {
     let u = grid::digit(m);
     let v = grid::digit(n);
@@ -275,8 +275,8 @@ fn offset_from(b: Cell, k: usize, h: u8, m: u8, n: u8) -> Asked
 
 // The base's 6 or 7, else what follows it.
 fn aim(base: PlaneRead, k: usize, h: u8, m: u8, n: u8) -> Asked
-    requires { ⌜ Reading base × (k < 18446744073709551613) ⌝ }
-    ensures { λ r. ⌜ (askedText r ≡ aimed k h m n (planeRead base)) × Fitting r ⌝ }
+    requires { ⌜ AsRead base × (k < 18446744073709551613) ⌝ }
+    ensures { λ r. ⌜ (askedText r ≡ ledTo (aimed k h m n (planeRead base))) × Fitting r ⌝ }
 {
     match base {
         PlaneRead::Found(c) => offset_from(c, k, h, m, n),

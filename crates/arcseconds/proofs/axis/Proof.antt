@@ -25,8 +25,8 @@ H s = s .args .half
 held : (s : tie.Start) → T (fits binary64 (s .args .x))
 held s = subst T (sym (s .good .0 .1)) tt
 
-back : (s : tie.Start) → readingOf (H s) (ofBits binary64 (b s)) ≡ readingOf (H s) (s .args .x)
-back s = ap (readingOf (H s)) (ofBits-toBits binary64 (s .args .x) (held s))
+back : (n : ℕ) (s : tie.Start) → readingOf n (H s) (ofBits binary64 (b s)) ≡ readingOf n (H s) (s .args .x)
+back n s = ap (readingOf n (H s)) (ofBits-toBits binary64 (s .args .x) (held s))
 
 bits-lt : (s : tie.Start) → b s < 2 * 2 ^ 63
 bits-lt s = toBits-lt binary64 (s .args .x) (held s)
@@ -35,14 +35,14 @@ float-to-bits-bits : tie.Need-float-to-bits-bits
 float-to-bits-bits c = search needs
 
 returns : tie.Need-returns
-returns c =
+returns c n =
     let s = c .before in
-    reads-zero (H s) (s .pre .1) (s .pre .2) (b s) (c .if1 .taken) ∙ back s
+    reads-zero n (H s) (s .pre .1) (s .pre .2) (b s) (c .if1 .taken) ∙ back n s
 
 returns-2 : tie.Need-returns-2
-returns-2 c =
+returns-2 c n =
     let s = c .before .before in
-    reads-far (H s) (s .pre .1) (s .pre .2) (b s) (c .if2 .taken) ∙ back s
+    reads-far n (H s) (s .pre .1) (s .pre .2) (b s) (c .if2 .taken) ∙ back n s
 
 sub-digits : tie.Need-sub-digits
 sub-digits c = omega (arith, bits-lt (c .before .before))
@@ -54,17 +54,17 @@ shifted-requires : tie.Need-shifted-requires
 shifted-requires c κs = search needs
 
 -- the number on the pattern's side whose outward index was worked out
-near : (c : tie.After-shifted) → (let s = c .before .before .before in inRange (H s) (unit (not (sign (b s))) (c .shifted .result)) ≡ readingOf (H s) (s .args .x))
-near c =
+near : (n : ℕ) (c : tie.After-shifted) → (let s = c .before .before .before in inRange n (H s) (unit (not (sign (b s))) (c .shifted .result)) ≡ readingOf n (H s) (s .args .x))
+near n c =
     let s = c .before .before .before in
-    ap (λ (k : ℕ). inRange (H s) (unit (not (sign (b s))) k)) (c .shifted .ensures)
-    ∙ reads-near (H s) (s .pre .1) (s .pre .2) (b s) (bits-lt s) (c .before .before .if1 .left) (c .before .if2 .left)
-    ∙ back s
+    ap (λ (k : ℕ). inRange n (H s) (unit (not (sign (b s))) k)) (c .shifted .ensures)
+    ∙ reads-near n (H s) (s .pre .1) (s .pre .2) (b s) (bits-lt s) (c .before .before .if1 .left) (c .before .if2 .left)
+    ∙ back n s
 
 returns-3 : tie.Need-returns-3
-returns-3 c =
+returns-3 c n =
     let s = c .before .before .before .before in
-    out (H s) (s .pre .1) (s .pre .2) (not (sign (b s))) (c .before .shifted .result) (c .if3 .taken) ∙ near (c .before)
+    out n (H s) (s .pre .1) (s .pre .2) (not (sign (b s))) (c .before .shifted .result) (c .if3 .taken) ∙ near n (c .before)
 
 cast-t12 : tie.Need-cast-t12
 cast-t12 c = search needs
@@ -76,11 +76,11 @@ negative : (n : ℕ) → (n / 9223372036854775808 ≡ 0 → ⊥) → 92233720368
 negative n h = omega arith
 
 returns-4 : tie.Need-returns-4
-returns-4 c =
+returns-4 c n =
     let s = c .before .before .before .before .before in
-    east (H s) (s .pre .1) (s .pre .2) (c .before .before .shifted .result) (c .before .if3 .left)
-    ∙ ap (λ (t : Bool). inRange (H s) (unit (not t) (c .before .before .shifted .result))) (sym (lt-leb (2 ^ 63) (b s) (positive (b s) (c .if4 .taken))))
-    ∙ near (c .before .before)
+    east n (H s) (s .pre .1) (s .pre .2) (c .before .before .shifted .result) (c .before .if3 .left)
+    ∙ ap (λ (t : Bool). inRange n (H s) (unit (not t) (c .before .before .shifted .result))) (sym (lt-leb (2 ^ 63) (b s) (positive (b s) (c .if4 .taken))))
+    ∙ near n (c .before .before)
 
 cast-t13 : tie.Need-cast-t13
 cast-t13 c = search needs
@@ -88,14 +88,14 @@ cast-t13 c = search needs
 sub-t14 : tie.Need-sub-t14
 sub-t14 c =
     let s = c .before .before .before .before .before in
-    minus-fits (H s) (s .pre .1) (s .pre .2) (c .before .before .shifted .result) (c .before .if3 .left)
+    minus-fits 0 (H s) (s .pre .1) (s .pre .2) (c .before .before .shifted .result) (c .before .if3 .left)
 
 returns-5 : tie.Need-returns-5
-returns-5 c =
+returns-5 c n =
     let s = c .before .before .before .before .before in
-    west (H s) (s .pre .1) (s .pre .2) (c .before .before .shifted .result) (c .before .if3 .left)
-    ∙ ap (λ (t : Bool). inRange (H s) (unit (not t) (c .before .before .shifted .result))) (sym (le-leb (2 ^ 63) (b s) (negative (b s) (c .if4 .left))))
-    ∙ near (c .before .before)
+    west n (H s) (s .pre .1) (s .pre .2) (c .before .before .shifted .result) (c .before .if3 .left)
+    ∙ ap (λ (t : Bool). inRange n (H s) (unit (not t) (c .before .before .shifted .result))) (sym (le-leb (2 ^ 63) (b s) (negative (b s) (c .if4 .left))))
+    ∙ near n (c .before .before)
 
 pub axis-spec : {M : Type 1} → statement M
 axis-spec =

@@ -7,6 +7,7 @@ use mir.Facts.{toZ-ofZ}
 use Rattle.grid.specs.Answers.{accepted}
 use Rattle.arcseconds.specs.declared.Reading.{Reading}
 use Rattle.arcseconds.specs.Readings.{units, unitsAt}
+use Rattle.arcseconds.specs.inner.Axis.{readingAnswer}
 use borrow.Author.Needs.{needs}
 use Rattle.arcseconds.proofs.position.Statement.{statement}
 use Rattle.arcseconds.proofs.position.Tie as tie
@@ -31,11 +32,11 @@ enum-known-latitude c = search needs
 
 returns : tie.Need-returns
 unfolding unitsAt
-returns c = c .refuse .ensures ∙ ap (λ (r : Reading). unitsAt r (c .before .before .before .args .latitude)) (sym (c .before .enum-told .given .1))
+returns c = c .refuse .ensures ∙ ap (λ (r : Reading). unitsAt (readingAnswer 2 r) (readingAnswer 3 (c .before .before .before .args .latitude))) (sym (c .before .enum-told .given .1))
 
 returns-2 : tie.Need-returns-2
 unfolding unitsAt
-returns-2 c = c .refuse2 .ensures ∙ ap₂ unitsAt (sym (c .before .before .before .before .longitude .given .1)) (sym (c .before .enum-told2 .given .1))
+returns-2 c = c .refuse2 .ensures ∙ ap₂ (λ (r s : Reading). unitsAt (readingAnswer 2 r) (readingAnswer 3 s)) (sym (c .before .before .before .before .longitude .given .1)) (sym (c .before .enum-told2 .given .1))
 
 returns-3 : tie.Need-returns-3
 unfolding unitsAt
@@ -44,7 +45,7 @@ returns-3 c =
     let v = c .before .latitude .given in
     ap₂ (λ (x y : ℤ). accepted (units x y)) (toZ-ofZ {w = w32} {z = u .0 .0} (record { sfits = c .before .before .before .known-told .given .0 .1 }))
     (toZ-ofZ {w = w32} {z = v .0 .0} (record { sfits = c .known-told2 .given .0 .1 }))
-    ∙ ap₂ unitsAt (sym (u .1)) (sym (v .1))
+    ∙ ap₂ (λ (r s : Reading). unitsAt (readingAnswer 2 r) (readingAnswer 3 s)) (sym (u .1)) (sym (v .1))
 
 pub position-spec : {M : Type 1} → statement M
 position-spec =

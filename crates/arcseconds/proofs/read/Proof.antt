@@ -32,7 +32,7 @@ returns-3 : tie.Need-returns-3
 returns-3 c =
     let s = c .before .before .before .before .before in
     c .position .ensures
-    ∙ ap₂ unitsAt (c .before .before .axis .ensures) (c .before .axis2 .ensures)
+    ∙ ap₂ unitsAt (c .before .before .axis .ensures 2) (c .before .axis2 .ensures 3)
     ∙ both-numbers (s .args .longitude) (s .args .latitude) (c .before .before .before .before .if1 .left) (c .before .before .before .if2 .left)
 
 pub read-spec : {M : Type 1} → statement M

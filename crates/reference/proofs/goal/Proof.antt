@@ -1,11 +1,11 @@
 -- `reference::goal` meets its contract. Assumes nothing.
 use mathlib.Core.Path.{sym, _∙_, ap}
-use Prim.Native.Nat.{_-_}
+use Prim.Native.Nat.{_+_, _-_}
 use native.Mathlib.Omega.{arith}
-use lib.ListN.{length}
+use lib.ListN.{length, getD}
 use lib.Seq.{length-take-le}
-use Rattle.reference.specs.Text.{aimed, targetText}
-use Rattle.reference.proofs.Theorems.{too-short}
+use Rattle.reference.specs.Text.{aimed, ledTo, targetText}
+use Rattle.reference.proofs.Spelling.{too-short}
 use borrow.Author.Needs.{needs}
 use Rattle.reference.proofs.goal.Statement.{statement}
 use Rattle.reference.proofs.goal.Tie as tie
@@ -44,7 +44,8 @@ returns-2 : tie.Need-returns-2
 unfolding targetText
 returns-2 c =
     let w = c .before .before .before .before .before .before .before .before .args .code .now in
-    (c .aim .ensures .0 ∙ ap (aimed (length w - 3) _ _ _) (c .before .before .before .before .read .ensures), c .aim .ensures .1)
+    let k = length w - 3 in
+    (c .aim .ensures .0 ∙ ap (λ x. ledTo (aimed k (getD w k 0) (getD w (k + 1) 0) (getD w (k + 2) 0) x)) (c .before .before .before .before .read .ensures), c .aim .ensures .1)
 
 pub goal-spec : {M : Type 1} → statement M
 goal-spec =

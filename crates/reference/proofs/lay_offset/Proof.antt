@@ -2,7 +2,7 @@
 use mathlib.Core.Path.{sym, _∙_, ap, subst}
 use Rattle.grid.proofs.Laying.{laid-refused}
 use Rattle.grid.specs.Laying.{laid}
-use Rattle.reference.specs.Parts.{offsetText, Small}
+use Rattle.reference.specs.inner.Parts.{offsetText, Small}
 use borrow.Author.Needs.{needs}
 use Rattle.reference.proofs.lay_offset.Statement.{statement}
 use Rattle.reference.proofs.lay_offset.Tie as tie

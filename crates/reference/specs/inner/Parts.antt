@@ -26,9 +26,9 @@ Small (Refused r) = Unit {0}
 abbrev pub Known : Cell → Type 0
 Known c = (w : List ℕ) × (cellOf w ≡ accepted c)
 
--- a is what reading a code answers
-abbrev pub Reading : PlaneRead → Type 0
-Reading a = (w : List ℕ) × (planeRead a ≡ cellOf w)
+-- a is what reading a plane code answers
+abbrev pub AsRead : PlaneRead → Type 0
+AsRead a = (w : List ℕ) × (planeRead a ≡ cellOf w)
 
 -- its sizes are those of level 5 or finer
 abbrev pub Steps : Cell → Type 0
