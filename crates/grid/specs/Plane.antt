@@ -5,14 +5,12 @@ use mathlib.Core.List.{List, [], _∷_, map}
 use Prim.Native.Nat.{ℕ, zero, suc, _+_, _-_, _*_, _/_, _%_, min}
 use lib.Dec.{ltb, leb, eqb}
 use lib.IntN.{ℤ, pos, negsuc}
-use lib.ListN.{take, drop}
 use Rattle.grid.specs.declared.Split.{Split}
 use Rattle.grid.specs.declared.Cell.{Cell}
 use Rattle.grid.specs.Units.{DEGREE, TURN, HALF, QUARTER, POLAR, side, index, eastward, fromPole, Square}
-use Rattle.grid.specs.Characters.{digitOf}
-use Rattle.grid.specs.Tree.{Tree, Read, ok, bad, guard, shift, follow}
+use Rattle.grid.specs.Tree.{Tree, Read, ok, bad, guard}
 use Rattle.grid.specs.Answers.{Answer}
-use Rattle.grid.specs.Codes.{Codes, codeIn, readIn, answer}
+use Rattle.grid.specs.Codes.{Codes, codeIn, readIn}
 use Rattle.grid.specs.Splits.{first, second, splits, polarCellAt}
 
 -- ---- cells, seen from where their columns and rows count

@@ -1,7 +1,7 @@
 -- The two constant tables, as src/lib.rt has them: the splits of the ten levels, and where the sixteen polar cells of level 2 begin.
 -- Assumes nothing.
 use mathlib.Core.List.{List, [], _∷_}
-use Prim.Native.Nat.{ℕ, _+_, _-_, _*_}
+use Prim.Native.Nat.{ℕ, _+_, _*_}
 use lib.ListN.{getD}
 use Rattle.grid.specs.declared.Split.{Split}
 use Rattle.grid.specs.declared.PolarCell.{PolarCell}
