@@ -13,27 +13,13 @@ use lib.Seq.{take-add, take-at}
 use borrow.Author.Tests.{ltb-true, leb-true, leb-false, eqb-true}
 use Rattle.grid.specs.Characters.{charOf, digitOf}
 use Rattle.grid.specs.Tree.{Read, ok, bad, code, follow}
-use Rattle.grid.specs.Answers.{Answer, accepted, refused, wrongCharacter}
+use Rattle.grid.specs.Answers.{accepted}
 use Rattle.grid.specs.Codes.{Codes, codeIn, readIn, placeIn, answer, answerAt}
-use Rattle.grid.specs.Demands.{Family, Begins, Accepted, Given, Share, FirstBad, Demands}
+use Rattle.grid.specs.Places.{Accepted}
+use Rattle.grid.specs.Demands.{Family, Begins, Given, Share, Demands}
 use Rattle.grid.proofs.Cut.{clash, Below, allBelow, below}
-use Rattle.grid.proofs.Lists.{take-map}
 use Rattle.grid.proofs.Characters.{digits-chars, chars-digits}
-use Rattle.grid.proofs.Laws.{Laws, Ends, total, code-holds, code-only, length-code, code-small, code-more, follow-good, follow-small, follow-ends}
-
-below-take : (k n : ℕ) (l : List ℕ) → Below k l → Below k (take n l)
-below-take k zero l h = tt
-below-take k (suc n) [] h = tt
-below-take k (suc n) (x ∷ l) h = (h .0, below-take k n l (h .1))
-
--- the number and the place of a refusal
-number : {C : Type 0} → Answer C → ℕ
-number (accepted c) = 0
-number (refused r) = r .number
-
-place : {C : Type 0} → Answer C → ℕ
-place (accepted c) = 0
-place (refused r) = r .place
+use Rattle.grid.proofs.Laws.{Laws, total, code-holds, code-only, length-code, code-small, code-more, follow-good}
 
 same-start : (a r b p q : List ℕ) (n : ℕ) → length a ≡ n → length p ≡ n → a ++ r ≡ b → p ++ q ≡ b → a ≡ p
 same-start a r b p q n la lp ea ep = sym (take-at a r n la) ∙ ap (λ (x : List ℕ). take n x) (ea ∙ sym ep) ∙ take-at p q n lp
@@ -253,13 +239,13 @@ module _ (K : Codes) (S : Sound K) where
 
   -- ---- accepted exactly when given
 
-  len-same : (i j : ℕ) → i ≤ most → j ≤ most → len i ≡ len j → i ≡ j
+  pub len-same : (i j : ℕ) → i ≤ most → j ≤ most → len i ≡ len j → i ≡ j
   len-same i j a b e =
       let x : i ≤ j = len-order i j a b (omega arith) in
       let y : j ≤ i = len-order j i b a (omega arith) in
       omega arith
 
-  given-of : (w : List ℕ) → Accepted (familyOf K S) w → Given (familyOf K S) w
+  given-of : (w : List ℕ) → Accepted (readIn K) w → Given (familyOf K S) w
   given-of w a =
       let s = held w (a .0) (a .1) in
       let f = found w (a .0) (a .1) in
@@ -277,7 +263,7 @@ module _ (K : Codes) (S : Sound K) where
   up-to-ten : (l : ℕ) → l ≤ 10 → l ≤ most
   up-to-ten l h = subst (λ (x : ℕ). l ≤ x) (sym (S .ten)) h
 
-  accepted-of : (w : List ℕ) → Given (familyOf K S) w → Accepted (familyOf K S) w
+  accepted-of : (w : List ℕ) → Given (familyOf K S) w → Accepted (readIn K) w
   accepted-of w a =
       let c = code-cell (a .level) (a .point) (a .on) (a .low) (up-to-ten (a .level) (a .high)) in
       (c .0, ap (readIn K) (sym (a .same)) ∙ c .1)
@@ -293,53 +279,6 @@ module _ (K : Codes) (S : Sound K) where
           let z : accepted c ≡ accepted (k .0) = sym e ∙ ap (readIn K) (sym q) ∙ k .1 in
           subst (λ (x : K .Cell). S .Covers x s) (cc) (k .3)
 
-  -- ---- the place of refusal 7
-
-  -- digits of a level's number that lead to a node are an accepted code
-  accepted-digits : (l : ℕ) (v : List ℕ) (m : K .tree .Node) → 1 ≤ l → l ≤ most → length v ≡ len l → follow (K .tree) (take l (K .levels)) (K .root) v ≡ ok m → readIn K (map charOf v) ≡ accepted (K .cellAt l m)
-  unfolding readIn
-  accepted-digits l v m a b e f =
-      let n : length (map charOf v) ≡ len l = length-map v charOf ∙ e in
-      let d : map digitOf (map charOf v) ≡ v = digits-chars v (follow-small (K .tree) (S .laws) (take l (K .levels)) (K .root) v m (S .fits l b) e f) in
-      rw (n, length-level l a b, d, f) refl
-
-  module _ (w : List ℕ) (l p : ℕ) (a : 1 ≤ l) (b : l ≤ most) (n : length w ≡ len l) (E : Ends (K .tree) (take l (K .levels)) (K .root) (map digitOf w) p) where
-    bytes-before : (v : List ℕ) × (length v ≡ length w) × Accepted (familyOf K S) v × (take p v ≡ take p w)
-    bytes-before =
-        let v = E .before in
-        let z : Below 32 (v .0) = follow-small (K .tree) (S .laws) (take l (K .levels)) (K .root) (v .0) (v .1) (S .fits l b) (v .2) (v .3) in
-        let t : take p (v .0) ≡ map digitOf (take p w) = v .4 ∙ take-map digitOf p w in (
-          map charOf (v .0),
-          length-map (v .0) charOf ∙ v .2 ∙ sym n,
-          (K .cellAt l (v .1), accepted-digits l (v .0) (v .1) a b (v .2) (v .3)),
-          take-map charOf p (v .0) ∙ ap (map charOf) t ∙ chars-digits (take p w) (subst (Below 32) t (below-take 32 p (v .0) z)),
-        )
-
-    bytes-no-further : (v : List ℕ) → length v ≡ length w → Accepted (familyOf K S) v → take (suc p) v ≡ take (suc p) w → ⊥
-    bytes-no-further v e c t =
-        let f = found v (c .0) (c .1) in
-        let s : f .l ≡ l = len-same (f .l) l (f .high) b (sym (f .long) ∙ e ∙ n) in
-        let r : follow (K .tree) (take l (K .levels)) (K .root) (map digitOf v) ≡ ok (f .node) = subst (λ (i : ℕ). follow (K .tree) (take i (K .levels)) (K .root) (map digitOf v) ≡ ok (f .node)) s (f .read) in
-        E .no-further (map digitOf v) (f .node) (length-map v digitOf ∙ e ∙ n) r (take-map digitOf (suc p) v ∙ ap (map digitOf) t ∙ sym (take-map digitOf (suc p) w))
-
-    first-bad : FirstBad (familyOf K S) w p
-    first-bad = record { inside = subst (λ (x : ℕ). p < x) (sym n) (E .inside); before = bytes-before; no-further = bytes-no-further }
-
-  refused-place : (w : List ℕ) (p : ℕ) → readIn K w ≡ refused (wrongCharacter p) → FirstBad (familyOf K S) w p
-  unfolding readIn number place
-  refused-place w p e = go (placeIn (length w) 1 (K .lengths)) refl e
-    where
-      at : (l : ℕ) → placeIn (length w) 1 (K .lengths) ≡ some l → (r : Read (K .tree .Node)) → follow (K .tree) (take l (K .levels)) (K .root) (map digitOf w) ≡ r → answer K l r ≡ refused (wrongCharacter p) → FirstBad (familyOf K S) w p
-      at l q (ok m) f e = clash (cc)
-      at l q (bad x) f e =
-          let h = level-length (length w) l q in
-          let z : x ≡ p = ap place e in
-          first-bad w l p (h .0) (h .1) (h .2) (follow-ends (K .tree) (S .laws) (take l (K .levels)) (K .root) (map digitOf w) p (S .fits l (h .1)) (length-map w digitOf ∙ h .2) (f ∙ ap bad z))
-
-      go : (o : Option ℕ) → placeIn (length w) 1 (K .lengths) ≡ o → answerAt K w o ≡ refused (wrongCharacter p) → FirstBad (familyOf K S) w p
-      go none q e = absurd (let z : 6 ≡ 7 = ap number e in omega arith)
-      go (some l) q e = at l q (follow (K .tree) (take l (K .levels)) (K .root) (map digitOf w)) refl e
-
   -- ---- all of it
 
   pub demands : Demands (familyOf K S)
@@ -352,5 +291,4 @@ module _ (K : Codes) (S : Sound K) where
         longer-inside = inside;
         accepted-exactly-when = λ w. (given-of w, accepted-of w);
         points-exactly = points;
-        place-of-refusal = refused-place;
       }

@@ -17,7 +17,7 @@ use Rattle.grid.specs.declared.Written.the-variants as written-as
 use Rattle.grid.specs.declared.PlaneRead.{PlaneRead}
 use Rattle.grid.specs.declared.PlaneRead.the-variants as read-as
 use Rattle.grid.specs.Answers.{Answer, accepted, refused, planeRead}
-use Rattle.grid.specs.Laying.{Text, refuse, text, noRoom, laidIf, laid, written}
+use Rattle.grid.specs.Laying.{Text, refuse, text, noRoom, laidIf, laid, LaidDown, written}
 use Rattle.grid.proofs.Cut.{clash}
 
 -- ---- two results that one contract allows are equal
@@ -52,13 +52,6 @@ refused-stays (text w) line at r e = go (leb (at + length w) (length line)) e
     go false e = refl
 
 -- ---- a success lays the whole text down, and the bytes before it and after it stay
-
-pub record LaidDown (w line : List ℕ) (at n : ℕ) (after : List ℕ) : Type 0 where
-  pub long : length w ≡ n
-  pub room : at + n ≤ length line
-  pub before : take at after ≡ take at line
-  pub there : take n (drop at after) ≡ w
-  pub behind : drop (at + n) after ≡ drop (at + n) line
 
 pub accepted-lays : (w line : List ℕ) (at n : ℕ) → laid (text w) line at .0 ≡ accepted n → LaidDown w line at n (laid (text w) line at .1)
 unfolding laid

@@ -11,6 +11,7 @@ pub mod PlaneLaws
 pub mod Lengths
 pub mod Covering
 pub mod Families
+pub mod Refusing
 pub mod LayerLaws
 pub mod Places
 pub mod BothLaws

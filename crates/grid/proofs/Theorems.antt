@@ -9,10 +9,11 @@ use native.Mathlib.Omega.{arith}
 use lib.ListN.{take}
 use Rattle.grid.specs.Units.{index, OnGlobe, Cube, OnGrid}
 use Rattle.grid.specs.Cells.{Covers, CoversCube}
-use Rattle.grid.specs.Splits.{splits}
+use Rattle.grid.specs.Places.{Places}
+use Rattle.grid.specs.Splits.{splits, planeLengths}
 use Rattle.grid.specs.Plane.{Frame, ordinary, belt, disc, Box, Node, globe, pole, cell, cap, plane, cellAt, planeCodes, codeOf, cellOf}
 use Rattle.grid.specs.Layers.{radices, product, layers}
-use Rattle.grid.specs.Space.{spaceLevels, spaceCodes, spaceCodeOf, spaceCellOf}
+use Rattle.grid.specs.Space.{spaceLevels, spaceLengths, spaceCodes, spaceCodeOf, spaceCellOf}
 use Rattle.grid.specs.Demands.{Demands, planeFamily, spaceFamily}
 use Rattle.grid.proofs.Cut.{and-true, allBelow, below}
 use Rattle.grid.proofs.Laws.{total}
@@ -21,6 +22,7 @@ use Rattle.grid.proofs.Covering.{covers-in, in-covers, in-globe}
 use Rattle.grid.proofs.LayerLaws.{fitsAll, layer-laws, stack-in, stack-on, stack-covers}
 use Rattle.grid.proofs.BothLaws.{both-laws, ones, twos, eachAdds}
 use Rattle.grid.proofs.Families.{Sound, testPlace, testLength, testOrder, demands}
+use Rattle.grid.proofs.Refusing.{places}
 
 -- ---- plane codes
 
@@ -59,6 +61,11 @@ plane-sound =
 pub plane-demands : Demands planeFamily
 unfolding codeOf cellOf plane-sound
 plane-demands = demands planeCodes plane-sound
+
+-- refusals 6 and 7 of plane codes, exactly when and where
+pub plane-places : Places cellOf planeLengths
+unfolding cellOf planeCodes plane-sound
+plane-places = places planeCodes plane-sound
 
 -- ---- space codes, of any list of radices that passes the test
 
@@ -103,3 +110,8 @@ radices-sound = space-sound radices OnGrid on-grid (omega arith) refl refl refl 
 pub space-demands : Demands spaceFamily
 unfolding spaceCodeOf spaceCellOf spaceCodes space-sound radices-sound
 space-demands = demands (spaceCodes radices) radices-sound
+
+-- refusals 6 and 7 of space codes, exactly when and where
+pub space-places : Places spaceCellOf spaceLengths
+unfolding spaceCellOf spaceCodes space-sound radices-sound
+space-places = places (spaceCodes radices) radices-sound

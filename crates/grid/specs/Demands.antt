@@ -3,12 +3,12 @@
 use mathlib.Core.Path.{_≡_}
 use mathlib.Core.List.{List, _++_}
 use mathlib.Core.Logic.{_↔_, _⊎_}
-use Prim.Native.Nat.{ℕ, suc, _≤_, _<_}
-use lib.ListN.{length, take}
+use Prim.Native.Nat.{ℕ, _≤_}
 use Rattle.grid.specs.declared.Cell.{Cell}
 use Rattle.grid.specs.declared.SpaceCell.{SpaceCell}
 use Rattle.grid.specs.Units.{Square, OnGlobe, Cube, OnGrid}
-use Rattle.grid.specs.Answers.{Answer, accepted, refused, wrongCharacter}
+use Rattle.grid.specs.Answers.{Answer, accepted}
+use Rattle.grid.specs.Places.{Accepted}
 use Rattle.grid.specs.Cells.{Covers, CoversCube}
 use Rattle.grid.specs.Plane.{codeOf, cellOf}
 use Rattle.grid.specs.Space.{spaceCodeOf, spaceCellOf}
@@ -28,10 +28,6 @@ abbrev pub Begins : List ℕ → List ℕ → Type 0
 Begins a w = (r : List ℕ) × (a ++ r ≡ w)
 
 module _ (F : Family) where
-  -- w is accepted
-  abbrev pub Accepted : List ℕ → Type 0
-  Accepted w = (c : F .Cell) × (F .cellOf w ≡ accepted c)
-
   -- some point and level get the code w
   pub record Given (w : List ℕ) : Type 0 where
     pub level : ℕ
@@ -47,12 +43,6 @@ module _ (F : Family) where
     pub on : F .On point
     pub first : F .Covers c point
     pub second : F .Covers d point
-
-  -- p is the first place at which no accepted code of w's length goes on
-  pub record FirstBad (w : List ℕ) (p : ℕ) : Type 0 where
-    pub inside : p < length w
-    pub before : (v : List ℕ) × (length v ≡ length w) × Accepted v × (take p v ≡ take p w)
-    pub no-further : (v : List ℕ) → length v ≡ length w → Accepted v → take (suc p) v ≡ take (suc p) w → ⊥
 
   pub record Demands : Type 0 where
     -- each point, at each level: the code we give for it is accepted, its cell has that level and holds the point
@@ -70,12 +60,10 @@ module _ (F : Family) where
     pub longer-inside : (a b : List ℕ) (c d : F .Cell) → F .cellOf a ≡ accepted c → F .cellOf b ≡ accepted d → Begins a b
         → (s : F .Point) → F .On s → F .Covers d s → F .Covers c s
     -- a code is accepted exactly when some point and level get it
-    pub accepted-exactly-when : (w : List ℕ) → Accepted w ↔ Given w
+    pub accepted-exactly-when : (w : List ℕ) → Accepted (F .cellOf) w ↔ Given w
     -- its cell's points are exactly those that get it
     pub points-exactly : (w : List ℕ) (c : F .Cell) (s : F .Point) → F .cellOf w ≡ accepted c → F .On s
         → F .Covers c s ↔ (F .codeOf (F .level c) s ≡ w)
-    -- the place of refusal 7 is the first at which no accepted code of that length goes on
-    pub place-of-refusal : (w : List ℕ) (p : ℕ) → F .cellOf w ≡ refused (wrongCharacter p) → FirstBad w p
 
 -- plane codes over unit squares
 abbrev pub planeFamily : Family

@@ -1,8 +1,9 @@
 -- Laying a text into a lent line: one definition for every writer.
 -- Assumes nothing.
+use mathlib.Core.Path.{_≡_}
 use mathlib.Core.Bool.{Bool, true, false}
 use mathlib.Core.List.{List, _++_}
-use Prim.Native.Nat.{ℕ, _+_}
+use Prim.Native.Nat.{ℕ, _+_, _≤_}
 use lib.Dec.{leb}
 use lib.ListN.{length, take, drop}
 use Rattle.grid.specs.declared.Refusal.{Refusal}
@@ -33,6 +34,14 @@ laidIf false w line at = (refused noRoom, line)
 unfoldable pub laid : Text → List ℕ → ℕ → Answer ℕ × List ℕ
 laid (refuse r) line at = (refused r, line)
 laid (text w) line at = laidIf (leb (at + length w) (length line)) w line at
+
+-- what a success leaves: n bytes written, for which there was room; from the place on they are the text, and the bytes before it and after it stay
+pub record LaidDown (w line : List ℕ) (at n : ℕ) (after : List ℕ) : Type 0 where
+  pub long : length w ≡ n
+  pub room : at + n ≤ length line
+  pub before : take at after ≡ take at line
+  pub there : take n (drop at after) ≡ w
+  pub behind : drop (at + n) after ≡ drop (at + n) line
 
 -- a writer's answer in the paper's numbers: the number of bytes, or the refusal
 abbrev pub written : Written → Answer ℕ

@@ -1,19 +1,17 @@
 -- The plane codes of levels 1 to 10: how a cell is divided, how its children are written, and what a cell is to a caller.
 -- Assumes nothing.
 use mathlib.Core.Bool.{Bool, true, false, not, cond, _&&_, _||_}
-use mathlib.Core.List.{List, [], _∷_, map}
+use mathlib.Core.List.{List, [], _∷_}
 use Prim.Native.Nat.{ℕ, zero, suc, _+_, _-_, _*_, _/_, _%_, min}
 use lib.Dec.{ltb, leb, eqb}
 use lib.IntN.{ℤ, pos, negsuc}
-use lib.ListN.{take, drop}
 use Rattle.grid.specs.declared.Split.{Split}
 use Rattle.grid.specs.declared.Cell.{Cell}
 use Rattle.grid.specs.Units.{DEGREE, TURN, HALF, QUARTER, POLAR, side, index, eastward, fromPole, Square}
-use Rattle.grid.specs.Characters.{digitOf}
-use Rattle.grid.specs.Tree.{Tree, Read, ok, bad, guard, shift, follow}
+use Rattle.grid.specs.Tree.{Tree, Read, ok, bad, guard}
 use Rattle.grid.specs.Answers.{Answer}
-use Rattle.grid.specs.Codes.{Codes, codeIn, readIn, answer}
-use Rattle.grid.specs.Splits.{first, second, splits, polarCellAt}
+use Rattle.grid.specs.Codes.{Codes, codeIn, readIn}
+use Rattle.grid.specs.Splits.{first, second, splits, planeLengths, polarCellAt}
 
 -- ---- cells, seen from where their columns and rows count
 
@@ -329,7 +327,7 @@ cellAt l (cap n h) = cellFrom l (pos 0) (leastFromPole n 0 h) TURN h
 -- plane codes: the ten levels of the table, from the globe on
 unfoldable pub planeCodes : Codes
 planeCodes =
-    record { tree = plane; levels = splits; root = globe; lengths = map (λ t. t .length) splits; Cell = Cell; cellAt = cellAt }
+    record { tree = plane; levels = splits; root = globe; lengths = planeLengths; Cell = Cell; cellAt = cellAt }
 
 -- level and position to plane code
 unfoldable pub codeOf : ℕ → Square → List ℕ

@@ -1,7 +1,7 @@
 -- The two constant tables, as src/lib.rt has them: the splits of the ten levels, and where the sixteen polar cells of level 2 begin.
 -- Assumes nothing.
-use mathlib.Core.List.{List, [], _∷_}
-use Prim.Native.Nat.{ℕ, _+_, _-_, _*_}
+use mathlib.Core.List.{List, [], _∷_, map}
+use Prim.Native.Nat.{ℕ, _+_, _*_}
 use lib.ListN.{getD}
 use Rattle.grid.specs.declared.Split.{Split}
 use Rattle.grid.specs.declared.PolarCell.{PolarCell}
@@ -35,6 +35,10 @@ splits =
     ∷ split 8 8 8 8 2 18 8 8
     ∷ split 8 8 1 1 2 20 8 8
     ∷ []
+
+-- the lengths of plane codes, level by level: 4, 6, 7, 9, 11, 12, 14, 16, 18, 20
+abbrev pub planeLengths : List ℕ
+planeLengths = map (λ t. t .length) splits
 
 -- place k is level k + 1
 abbrev pub splitAt : ℕ → Split

@@ -3,7 +3,6 @@
 use mathlib.Core.Bool.{Bool, true, false}
 use Prim.Native.Nat.{ℕ, _-_, _*_, _<_}
 use lib.IntN.{ℤ, pos, negsuc}
-use Rattle.grid.specs.declared.Place.{Place}
 
 -- one minute: 60 arc-seconds of 2048 units
 abbrev pub MINUTE : ℕ
