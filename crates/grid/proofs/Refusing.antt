@@ -58,6 +58,66 @@ first-bad-one read w p q a b = go (ltb p q) refl (ltb q p) refl
         let j : p ≤ q = ltb-false q p f in
         omega arith
 
+-- ---- the answers of any reader of codes of these lengths
+
+module _ {C : Type 0} (read : List ℕ → Answer C) (lengths : List ℕ) where
+  -- w is accepted, or its length is none of the lengths and it gets 6, or its length is one and it gets 7
+  pub data Answered (w : List ℕ) : Type 0 where
+    as-cell : among (length w) lengths ≡ true → Accepted read w → Answered w
+    as-six : among (length w) lengths ≡ false → read w ≡ refused wrongLength → Answered w
+    as-seven : (p : ℕ) → among (length w) lengths ≡ true → read w ≡ refused (wrongCharacter p) → FirstBad read w p → Answered w
+
+  no-cell-six : (w : List ℕ) → Accepted read w → read w ≡ refused wrongLength → ⊥
+  no-cell-six w a e = clash (let z : accepted (a .0) ≡ refused wrongLength = sym (a .1) ∙ e in cc)
+
+  module _ (answered : (w : List ℕ) → Answered w) (some-code : (n : ℕ) → among n lengths ≡ true → (w : List ℕ) × (length w ≡ n) × Accepted read w) where
+    six : (w : List ℕ) → (read w ≡ refused wrongLength) ↔ (among (length w) lengths ≡ false)
+    unfolding number
+    six w = (λ e. to (answered w) e, λ n. from (answered w) n)
+      where
+        to : Answered w → read w ≡ refused wrongLength → among (length w) lengths ≡ false
+        to (as-cell m a) e = absurd (no-cell-six w a e)
+        to (as-six m f) e = m
+        to (as-seven p m f b) e = absurd (let z : 6 ≡ 7 = ap number (sym e ∙ f) in omega arith)
+
+        from : Answered w → among (length w) lengths ≡ false → read w ≡ refused wrongLength
+        from (as-cell m a) n = clash (cc)
+        from (as-six m f) n = f
+        from (as-seven p m f b) n = clash (cc)
+
+    lengths-are : (n : ℕ) → (among n lengths ≡ true) ↔ ((w : List ℕ) × (length w ≡ n) × Accepted read w)
+    lengths-are n = (some-code n, λ t. subst (λ (x : ℕ). among x lengths ≡ true) (t .1) (from (t .0) (answered (t .0)) (t .2)))
+      where
+        from : (w : List ℕ) → Answered w → Accepted read w → among (length w) lengths ≡ true
+        from w (as-cell m a) c = m
+        from w (as-six m f) c = absurd (no-cell-six w c f)
+        from w (as-seven p m f b) c = m
+
+    seven : (w : List ℕ) (p : ℕ) → (read w ≡ refused (wrongCharacter p)) ↔ FirstBad read w p
+    unfolding number place
+    seven w p = (λ e. to (answered w) e, λ b. from b (answered w))
+      where
+        to : Answered w → read w ≡ refused (wrongCharacter p) → FirstBad read w p
+        to (as-cell m a) e = clash (let z : accepted (a .0) ≡ refused (wrongCharacter p) = sym (a .1) ∙ e in cc)
+        to (as-six m f) e = absurd (let z : 6 ≡ 7 = ap number (sym f ∙ e) in omega arith)
+        to (as-seven q m f b) e = subst (FirstBad read w) (ap place (sym f ∙ e)) b
+
+        from : FirstBad read w p → Answered w → read w ≡ refused (wrongCharacter p)
+        from b (as-cell m a) = absurd (b .no-further w refl a refl)
+        from b (as-six m f) =
+            let v = b .before in
+            let z = lengths-are (length w) .1 (v .0, v .1, v .2) in
+            clash (cc)
+        from b (as-seven q m f d) = f ∙ ap (λ (x : ℕ). refused (wrongCharacter x)) (first-bad-one read w q p d b)
+
+    pub places-of : Places read lengths
+    places-of = record { accepted-six-or-seven = λ w. three w (answered w); six-exactly-when = six; lengths-exactly = lengths-are; seven-exactly-when = seven }
+      where
+        three : (w : List ℕ) → Answered w → Accepted read w ⊎ ((read w ≡ refused wrongLength) ⊎ ((p : ℕ) × (read w ≡ refused (wrongCharacter p))))
+        three w (as-cell m a) = inl a
+        three w (as-six m f) = inr (inl f)
+        three w (as-seven p m f b) = inr (inr (p, f))
+
 -- ---- the lengths
 
 -- a place in the list, or none of it
@@ -116,101 +176,35 @@ module _ (K : Codes) (S : Sound K) where
     first-bad : FirstBad (readIn K) w p
     first-bad = record { inside = subst (λ (x : ℕ). p < x) (sym n) (E .inside); before = bytes-before; no-further = bytes-no-further }
 
-  refused-place : (w : List ℕ) (p : ℕ) → readIn K w ≡ refused (wrongCharacter p) → FirstBad (readIn K) w p
-  unfolding readIn number place
-  refused-place w p e = go (placeIn (length w) 1 (K .lengths)) refl e
-    where
-      at : (l : ℕ) → placeIn (length w) 1 (K .lengths) ≡ some l → (r : Read (K .tree .Node)) → follow (K .tree) (take l (K .levels)) (K .root) (map digitOf w) ≡ r → answer K l r ≡ refused (wrongCharacter p) → FirstBad (readIn K) w p
-      at l q (ok m) f e = clash (cc)
-      at l q (bad x) f e =
-          let h = level-length K S (length w) l q in
-          let z : x ≡ p = ap place e in
-          first-bad w l p (h .0) (h .1) (h .2) (follow-ends (K .tree) (S .laws) (take l (K .levels)) (K .root) (map digitOf w) p (S .fits l (h .1)) (length-map w digitOf ∙ h .2) (f ∙ ap bad z))
-
-      go : (o : Option ℕ) → placeIn (length w) 1 (K .lengths) ≡ o → answerAt K w o ≡ refused (wrongCharacter p) → FirstBad (readIn K) w p
-      go none q e = absurd (let z : 6 ≡ 7 = ap number e in omega arith)
-      go (some l) q e = at l q (follow (K .tree) (take l (K .levels)) (K .root) (map digitOf w)) refl e
-
   -- ---- the three answers
 
-  -- w is accepted, or its length is none of the lengths and it gets 6, or its length is one and it gets 7
-  data Answered (w : List ℕ) : Type 0 where
-    as-cell : among (length w) (K .lengths) ≡ true → Accepted (readIn K) w → Answered w
-    as-six : among (length w) (K .lengths) ≡ false → readIn K w ≡ refused wrongLength → Answered w
-    as-seven : (p : ℕ) → among (length w) (K .lengths) ≡ true → readIn K w ≡ refused (wrongCharacter p) → Answered w
-
-  answered : (w : List ℕ) → Answered w
+  answered : (w : List ℕ) → Answered (readIn K) (K .lengths) w
   unfolding readIn
   answered w = go (placeIn (length w) 1 (K .lengths)) refl
     where
-      at : (l : ℕ) → placeIn (length w) 1 (K .lengths) ≡ some l → (r : Read (K .tree .Node)) → follow (K .tree) (take l (K .levels)) (K .root) (map digitOf w) ≡ r → Answered w
+      at : (l : ℕ) → placeIn (length w) 1 (K .lengths) ≡ some l → (r : Read (K .tree .Node)) → follow (K .tree) (take l (K .levels)) (K .root) (map digitOf w) ≡ r → Answered (readIn K) (K .lengths) w
       at l q (ok m) f = as-cell (among-some (length w) 1 (K .lengths) l q) (K .cellAt l m, rw (q, f) refl)
-      at l q (bad p) f = as-seven p (among-some (length w) 1 (K .lengths) l q) (rw (q, f) refl)
+      at l q (bad p) f =
+          let h = level-length K S (length w) l q in
+          as-seven p (among-some (length w) 1 (K .lengths) l q) (rw (q, f) refl)
+          (first-bad w l p (h .0) (h .1) (h .2) (follow-ends (K .tree) (S .laws) (take l (K .levels)) (K .root) (map digitOf w) p (S .fits l (h .1)) (length-map w digitOf ∙ h .2) f))
 
-      go : (o : Option ℕ) → placeIn (length w) 1 (K .lengths) ≡ o → Answered w
+      go : (o : Option ℕ) → placeIn (length w) 1 (K .lengths) ≡ o → Answered (readIn K) (K .lengths) w
       go none q = as-six (among-none (length w) 1 (K .lengths) q) (rw q refl)
       go (some l) q = at l q (follow (K .tree) (take l (K .levels)) (K .root) (map digitOf w)) refl
 
-  no-cell-six : (w : List ℕ) → Accepted (readIn K) w → readIn K w ≡ refused wrongLength → ⊥
-  no-cell-six w a e = clash (let z : accepted (a .0) ≡ refused wrongLength = sym (a .1) ∙ e in cc)
-
-  -- ---- 6
-
-  six : (w : List ℕ) → (readIn K w ≡ refused wrongLength) ↔ (among (length w) (K .lengths) ≡ false)
-  unfolding number
-  six w = (λ e. to (answered w) e, λ n. from (answered w) n)
-    where
-      to : Answered w → readIn K w ≡ refused wrongLength → among (length w) (K .lengths) ≡ false
-      to (as-cell m a) e = absurd (no-cell-six w a e)
-      to (as-six m f) e = m
-      to (as-seven p m f) e = absurd (let z : 6 ≡ 7 = ap number (sym e ∙ f) in omega arith)
-
-      from : Answered w → among (length w) (K .lengths) ≡ false → readIn K w ≡ refused wrongLength
-      from (as-cell m a) n = clash (cc)
-      from (as-six m f) n = f
-      from (as-seven p m f) n = clash (cc)
-
   -- an accepted code of each of the lengths
-  some-code : (l : ℕ) → 1 ≤ l → l ≤ most → (w : List ℕ) × (length w ≡ len l) × Accepted (readIn K) w
-  some-code l a b =
-      let t = S .laws .some (take l (K .levels)) (K .root) (S .fits l b) in
-      let o : S .On (t .0) = S .in-on (K .root) (t .0) (t .1) in
-      let c = code-cell K S l (t .0) o a b in
-      (codeIn K l (t .0), length-codeIn K S l (t .0) o b, (c .0, c .1))
-
-  lengths : (n : ℕ) → (among n (K .lengths) ≡ true) ↔ ((w : List ℕ) × (length w ≡ n) × Accepted (readIn K) w)
-  lengths n = (λ e. to (placeIn n 1 (K .lengths)) refl e, λ t. subst (λ (x : ℕ). among x (K .lengths) ≡ true) (t .1) (from (t .0) (answered (t .0)) (t .2)))
+  some-code : (n : ℕ) → among n (K .lengths) ≡ true → (w : List ℕ) × (length w ≡ n) × Accepted (readIn K) w
+  some-code n e = go (placeIn n 1 (K .lengths)) refl
     where
-      to : (o : Option ℕ) → placeIn n 1 (K .lengths) ≡ o → among n (K .lengths) ≡ true → (w : List ℕ) × (length w ≡ n) × Accepted (readIn K) w
-      to none q e = let z = among-none n 1 (K .lengths) q in clash (cc)
-      to (some l) q e =
+      go : (o : Option ℕ) → placeIn n 1 (K .lengths) ≡ o → (w : List ℕ) × (length w ≡ n) × Accepted (readIn K) w
+      go none q = let z = among-none n 1 (K .lengths) q in clash (cc)
+      go (some l) q =
           let h = level-length K S n l q in
-          let t = some-code l (h .0) (h .1) in
-          (t .0, t .1 ∙ sym (h .2), t .2)
-
-      from : (w : List ℕ) → Answered w → Accepted (readIn K) w → among (length w) (K .lengths) ≡ true
-      from w (as-cell m a) c = m
-      from w (as-six m f) c = absurd (no-cell-six w c f)
-      from w (as-seven p m f) c = m
-
-  -- ---- 7
-
-  seven : (w : List ℕ) (p : ℕ) → (readIn K w ≡ refused (wrongCharacter p)) ↔ FirstBad (readIn K) w p
-  seven w p = (refused-place w p, λ b. from b (answered w))
-    where
-      from : FirstBad (readIn K) w p → Answered w → readIn K w ≡ refused (wrongCharacter p)
-      from b (as-cell m a) = absurd (b .no-further w refl a refl)
-      from b (as-six m f) =
-          let v = b .before in
-          let z = lengths (length w) .1 (v .0, v .1, v .2) in
-          clash (cc)
-      from b (as-seven q m f) = f ∙ ap (λ (x : ℕ). refused (wrongCharacter x)) (first-bad-one (readIn K) w q p (refused-place w q f) b)
+          let t = S .laws .some (take l (K .levels)) (K .root) (S .fits l (h .1)) in
+          let o : S .On (t .0) = S .in-on (K .root) (t .0) (t .1) in
+          let c = code-cell K S l (t .0) o (h .0) (h .1) in
+          (codeIn K l (t .0), length-codeIn K S l (t .0) o (h .1) ∙ sym (h .2), (c .0, c .1))
 
   pub places : Places (readIn K) (K .lengths)
-  places =
-      record { accepted-six-or-seven = λ w. three w (answered w); six-exactly-when = six; lengths-exactly = lengths; seven-exactly-when = seven }
-    where
-      three : (w : List ℕ) → Answered w → Accepted (readIn K) w ⊎ ((readIn K w ≡ refused wrongLength) ⊎ ((p : ℕ) × (readIn K w ≡ refused (wrongCharacter p))))
-      three w (as-cell m a) = inl a
-      three w (as-six m f) = inr (inl f)
-      three w (as-seven p m f) = inr (inr (p, f))
+  places = places-of (readIn K) (K .lengths) answered some-code
