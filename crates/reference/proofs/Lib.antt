@@ -2,6 +2,7 @@ pub mod Numbers
 pub mod Ordinary
 pub mod Corners
 pub mod Spelling
+pub mod Places
 pub mod Theorems
 pub mod Parts
 pub mod Lines

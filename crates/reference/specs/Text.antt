@@ -2,7 +2,7 @@
 -- Assumes nothing.
 use mathlib.Core.Bool.{Bool, true, false, _&&_}
 use mathlib.Core.Path.{_≡_}
-use mathlib.Core.List.{List, [], _∷_, _++_}
+use mathlib.Core.List.{List, [], _∷_, _++_, map}
 use Prim.Native.Nat.{ℕ, _+_, _-_}
 use lib.Dec.{ltb, leb, eqb}
 use lib.IntN.{ℤ, pos, _+ℤ_, _*ℤ_}
@@ -14,6 +14,7 @@ use Rattle.grid.specs.Characters.{charOf, digitOf}
 use Rattle.grid.specs.Answers.{Answer, accepted, refused, wrongCharacter}
 use Rattle.grid.specs.Cells.{around}
 use Rattle.grid.specs.Laying.{Text, refuse, text, unless}
+use Rattle.grid.specs.Splits.{planeLengths}
 use Rattle.grid.specs.Plane.{codeOf, cellOf}
 use Rattle.reference.specs.Offsets.{offsetDigit, offset, moved, spanOf}
 
@@ -100,6 +101,10 @@ aimedAt w k = aimed k (getD w k 0) (getD w (k + 1) 0) (getD w (k + 2) 0) (cellOf
 -- the base, M and N of a reference code; 6 where the total less 3 is no plane length, or 7 with its place in the whole code
 abbrev pub aimOf : List ℕ → Answer Aim
 aimOf w = aimedAt w (length w - 3)
+
+-- the lengths of reference codes: three more than those of plane codes
+abbrev pub referenceLengths : List ℕ
+referenceLengths = map (λ k. k + 3) planeLengths
 
 -- 6 or 7, else what base, M and N lead to
 abbrev pub ledTo : Answer Aim → Text
