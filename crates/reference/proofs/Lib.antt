@@ -3,6 +3,7 @@ pub mod Ordinary
 pub mod Corners
 pub mod Spelling
 pub mod Places
+pub mod Leading
 pub mod Theorems
 pub mod Parts
 pub mod Lines

@@ -9,18 +9,18 @@ use native.Mathlib.Nat.{add-zero}
 use native.Mathlib.Omega.{arith}
 use lib.Dec.{leb, eqb}
 use lib.ListN.{length, take, getD, length-append}
-use lib.Seq.{length-take-le, take-append-le, take-append-add, take-at, take-take}
+use lib.Seq.{length-take-le, take-append-le, take-append-add, take-take}
 use borrow.Author.Tests.{leb-true, leb-false, eqb-true, eqb-false, eq-eqb, ne-eqb}
 use Rattle.grid.specs.declared.Cell.{Cell}
 use Rattle.grid.specs.Characters.{charOf, digitOf}
-use Rattle.grid.specs.Answers.{Answer, accepted, refused, wrongLength, wrongCharacter}
-use Rattle.grid.specs.Places.{among, Accepted, FirstBad, Places}
+use Rattle.grid.specs.Answers.{accepted, refused, wrongLength, wrongCharacter}
+use Rattle.grid.specs.Places.{among, Accepted, FirstBad}
 use Rattle.grid.specs.Splits.{planeLengths}
 use Rattle.grid.specs.Plane.{cellOf}
 use Rattle.grid.proofs.Cut.{clash}
 use Rattle.grid.proofs.Characters.{digit-char}
 use Rattle.grid.proofs.Places.{agree-at}
-use Rattle.grid.proofs.Refusing.{Answered, as-cell, as-six, as-seven, places-of}
+use Rattle.grid.proofs.Refusing.{Answered, as-cell, as-six, as-seven}
 use Rattle.grid.proofs.Theorems.{plane-places}
 use Rattle.reference.specs.Offsets.{offsetDigit}
 use Rattle.reference.specs.Text.{referenceCode, aimed, aimOf, referenceLengths, Formed}
@@ -180,7 +180,8 @@ long-answered a h m n t = go (plane-places .accepted-six-or-seven a)
     go (inr (inl e)) = let z = plane-places .six-exactly-when a .0 e in clash (cc)
     go (inr (inr (p, e))) = as-seven p long (read-behind a h m n ∙ rw e refl) (base-bad a h m n p (plane-places .seven-exactly-when a p .0 e))
 
-answered : (w : List ℕ) → Answered aimOf referenceLengths w
+-- any code
+pub answered : (w : List ℕ) → Answered aimOf referenceLengths w
 unfolding aimed
 answered w = go (among k planeLengths) refl
   where
@@ -198,12 +199,9 @@ answered w = go (among k planeLengths) refl
         let s = plane-places .six-exactly-when (take k w) .1 (ap (λ (i : ℕ). among i planeLengths) base-is ∙ e) in
         as-six (less-three (length w) ∙ e) (rw s refl)
 
-some-code : (n : ℕ) → among n referenceLengths ≡ true → (w : List ℕ) × (length w ≡ n) × Accepted aimOf w
+-- a reference code of each length
+pub some-code : (n : ℕ) → among n referenceLengths ≡ true → (w : List ℕ) × (length w ≡ n) × Accepted aimOf w
 some-code n e =
     let d = sym (less-three n) ∙ e in
     let v = plane-places .lengths-exactly (n - 3) .0 d in
     (referenceCode (v .0) 0 0, reference-length (v .0) 0 0 ∙ ap (λ (k : ℕ). k + 3) (v .1) ∙ long-by n d, from-base (v .0) (v .2))
-
--- 6 and 7 of a reference code
-pub aim-places : Places aimOf referenceLengths
-aim-places = places-of aimOf referenceLengths answered some-code

@@ -1,118 +1,35 @@
--- What is asked of reference codes: the writer and the reader undo each other, and an offset is cells east and cells north.
+-- What is asked of reference codes: the writer and the reader undo each other, an offset is cells east and cells north,
+-- 6 and 7 are given at the right lengths and places, and each answer exactly when its reason holds.
 -- Assumes nothing.
 use mathlib.Core.Path.{_≡_, refl, sym, _∙_, ap, subst}
 use mathlib.Core.Bool.{Bool, true, false, _&&_}
-use mathlib.Core.List.{List, [], _∷_, _++_}
-use mathlib.Core.Logic.{_↔_}
-use Prim.Native.Nat.{ℕ, suc, _+_, _-_, _≤_, _<_, _∣_}
-use native.Mathlib.Nat.{add-zero}
+use mathlib.Core.List.{List}
+use mathlib.Core.Logic.{_↔_, inl, inr}
+use Prim.Native.Nat.{ℕ, _-_, _≤_, _<_}
 use native.Mathlib.Omega.{arith}
 use lib.Dec.{ltb, leb, eqb}
-use lib.IntN.{ℤ}
-use lib.ListN.{length, take, drop, getD, length-append, take-append-drop, drop-of-length-le}
-use lib.Seq.{take-at, drop-cons, getD-append-add}
-use borrow.Author.Tests.{ltb-true, leb-true, eqb-true, ltb-false, leb-false, lt-ltb, le-ltb, le-leb, eq-eqb}
+use lib.ListN.{length, take}
+use borrow.Author.Tests.{ltb-true, leb-true, eqb-true, ltb-false, eqb-false, lt-ltb, le-ltb, ne-eqb}
 use Rattle.grid.specs.declared.Cell.{Cell}
 use Rattle.grid.specs.declared.Refusal.{Refusal}
-use Rattle.grid.specs.Units.{POLAR, index, Square}
-use Rattle.grid.specs.Characters.{charOf, digitOf}
-use Rattle.grid.specs.Answers.{Answer, accepted, refused, refusal, wrongLength}
-use Rattle.grid.specs.Cells.{around}
-use Rattle.grid.specs.Codes.{readIn}
-use Rattle.grid.specs.Splits.{splitAt}
+use Rattle.grid.specs.Units.{POLAR, index}
+use Rattle.grid.specs.Answers.{Answer, accepted, refused, refusal, wrongLength, wrongCharacter}
+use Rattle.grid.specs.Places.{among, Accepted, FirstBad, Places}
+use Rattle.grid.specs.Splits.{planeLengths}
 use Rattle.grid.specs.Laying.{Text, refuse, text, unless}
-use Rattle.grid.specs.Plane.{longitudeAt, codeOf, cellOf}
+use Rattle.grid.specs.Plane.{codeOf, cellOf}
 use Rattle.grid.proofs.Cut.{clash, and-true}
-use Rattle.grid.proofs.Characters.{digit-char, char-digit}
-use Rattle.reference.specs.Offsets.{offsetDigit, movedTo, moved}
-use Rattle.reference.specs.Text.{fit, eastSpan, northSpan, referenceCode, spelled, spanned, related, referenceText, targetSquare, targetOf, Aim, aimOf, ledTo, targetText, southAfter, MovedBy, Formed, Leads}
-use Rattle.reference.proofs.Numbers.{longitudeAt-around, around-moved, digit-fits, moved-sum, span-of-moved, span-leads}
-use Rattle.reference.proofs.Corners.{Fit, fit-of, to-fit, corner, corner-code, Target, target}
-use Rattle.reference.proofs.Spelling.{formed, formed-start, read-formed, formed-of}
-
--- ---- what a text that is written says of the tests before it
-
-text-inj : {a b : List ℕ} → text a ≡ text b → a ≡ b
-text-inj e = cc
-
-unless-text : (q : Bool) (n : ℕ) (t : Text) (w : List ℕ) → unless q n t ≡ text w → (q ≡ true) × (t ≡ text w)
-unless-text true n t w e = (refl, e)
-unless-text false n t w e = clash (cc)
-
--- the writer gives the reference code r
-record Spanned (w : List ℕ) (b t : Cell) (r : List ℕ) : Type 0 where
-  fit-base : fit b ≡ true
-  fit-target : fit t ≡ true
-  level : b .level ≡ t .level
-  east : eastSpan b t ≤ 16
-  north : northSpan b t ≤ 16
-  same : referenceCode w (eastSpan b t) (northSpan b t) ≡ r
-
-spanned-of : (w : List ℕ) (b t : Cell) (r : List ℕ) → spanned w b t ≡ text r → Spanned w b t r
-unfolding spanned spelled
-spanned-of w b t r e =
-    let a = unless-text (fit b && fit t) 8 _ r e in
-    let f = and-true (fit b) (fit t) (a .0) in
-    let l = unless-text (eqb (b .level) (t .level)) 9 _ r (a .1) in
-    let s = unless-text (leb (eastSpan b t) 16 && leb (northSpan b t) 16) 10 _ r (l .1) in
-    let o = and-true (leb (eastSpan b t) 16) (leb (northSpan b t) 16) (s .0) in
-    record {
-      fit-base = f .0;
-      fit-target = f .1;
-      level = eqb-true (b .level) (t .level) (l .0);
-      east = leb-true (eastSpan b t) 16 (o .0);
-      north = leb-true (northSpan b t) 16 (o .1);
-      same = text-inj (s .1);
-    }
-
-to-spanned : (w : List ℕ) (b t : Cell) (r : List ℕ) → Spanned w b t r → spanned w b t ≡ text r
-unfolding spanned spelled
-to-spanned w b t r s =
-    rw (s .fit-base, s .fit-target, eq-eqb (b .level) (t .level) (s .level), le-leb (eastSpan b t) 16 (s .east), le-leb (northSpan b t) 16 (s .north))
-    (ap text (s .same))
-
-record Related (w : List ℕ) (x y : Answer Cell) (r : List ℕ) : Type 0 where
-  base : Cell
-  target : Cell
-  read-base : x ≡ accepted base
-  read-target : y ≡ accepted target
-  spans : Spanned w base target r
-
-related-of : (w : List ℕ) (x y : Answer Cell) (r : List ℕ) → related w x y ≡ text r → Related w x y r
-related-of w (refused q) y r e = clash (cc)
-related-of w (accepted b) (refused q) r e = clash (cc)
-related-of w (accepted b) (accepted t) r e = record { base = b; target = t; read-base = refl; read-target = refl; spans = spanned-of w b t r e }
+use Rattle.grid.proofs.Refusing.{places-of}
+use Rattle.grid.proofs.Theorems.{plane-places}
+use Rattle.reference.specs.Offsets.{offsetDigit}
+use Rattle.reference.specs.Text.{fit, eastSpan, northSpan, referenceCode, ofSecond, spelled, spanned, referenceText, targetSquare, targetOf, Aim, aimOf, referenceLengths, ledTo, targetText, southAfter, OffsetTo, Formed, Leads}
+use Rattle.reference.specs.Reasons.{CodesOf, WhyWritten, base-six, base-seven, target-six, target-seven, eight, nine, ten, code, WhyRead, six, seven, not-fit, twelve, target}
+use Rattle.reference.proofs.Corners.{fit-of}
+use Rattle.reference.proofs.Spelling.{formed, formed-start, parts, read-formed, formed-of}
+use Rattle.reference.proofs.Places.{less-three, answered, some-code}
+use Rattle.reference.proofs.Leading.{unless-text, related-of, east-leads, north-leads, leads-text, reached, reached-spanned, taken, related-read, leads-of, of-leads, by-latitude, by-offset, found-offset, leads-by}
 
 -- ---- 1: what the writer writes the reader reads back as the target, byte for byte
-
-module _ (b t : Cell) (fb : Fit b) (ft : Fit t) (l : b .level ≡ t .level) (he : eastSpan b t ≤ 16) (hn : northSpan b t ≤ 16) where
-  same-width : b .width ≡ t .width
-  same-width = fb .wide ∙ ap (λ (i : ℕ). splitAt (i - 1) .width) l ∙ sym (ft .wide)
-
-  same-height : b .height ≡ t .height
-  same-height = fb .high ∙ ap (λ (i : ℕ). splitAt (i - 1) .height) l ∙ sym (ft .high)
-
-  east-leads : (offsetDigit (eastSpan b t) ≡ true) × (moved (b .width) (eastSpan b t) (b .west) ≡ t .west)
-  east-leads =
-      let E = fb .east in
-      let a = span-leads (b .width) (E .some) (E .small) (E .turn) (b .west) (t .west) (E .whole) (subst (λ (x : ℕ). x ∣ around (t .west)) (sym same-width) (ft .east .whole)) he in
-      (a .0, ap longitudeAt (a .1) ∙ longitudeAt-around (t .west) (ft .east .within))
-
-  north-leads : (offsetDigit (northSpan b t) ≡ true) × (moved (b .height) (northSpan b t) (b .south) ≡ t .south)
-  north-leads =
-      let N = fb .north in
-      let a = span-leads (b .height) (N .some) (N .small) (N .turn) (b .south) (t .south) (N .whole) (subst (λ (x : ℕ). x ∣ around (t .south)) (sym same-height) (ft .north .whole)) hn in
-      (a .0, ap longitudeAt (a .1) ∙ longitudeAt-around (t .south) (ft .north .within))
-
-  leads-square : targetSquare b (eastSpan b t) (northSpan b t) ≡ corner t
-  leads-square = λ i. record { longitude = east-leads .1 i; latitude = north-leads .1 i }
-
-  leads-text : (w : List ℕ) → cellOf w ≡ accepted t → targetOf b (eastSpan b t) (northSpan b t) ≡ text w
-  unfolding targetOf
-  leads-text w e =
-      rw (to-fit b fb)
-      (subst (λ (s : Square). unless (ltb (index (s .latitude)) POLAR) 12 (text (codeOf (b .level) s)) ≡ text w) (sym leads-square)
-      (rw (lt-ltb (index (t .south)) POLAR (ft .south-in), l) (ap text (sym (corner-code w t e ft)))))
 
 pub written-read : (base goal w : List ℕ) → referenceText base goal ≡ text w → targetText w ≡ text goal
 unfolding referenceText targetText
@@ -133,76 +50,6 @@ written-read base goal w e =
 
 -- ---- 2: a reference code that the reader accepts is the one that the writer gives for its base and its target
 
-module _ (b : Cell) (m n : ℕ) (f : Fit b) (hm : offsetDigit m ≡ true) (hn : offsetDigit n ≡ true) (away : index (targetSquare b m n .latitude) < 648806400) where
-  reached : Target b m n f hm hn away
-  reached = target b m n f hm hn away
-
-  reached-east : eastSpan b (reached .cell) ≡ m
-  reached-east =
-      let E = f .east in
-      span-of-moved (b .width) (E .some) (E .small) m (b .west) (reached .cell .west) hm (ap around (reached .west) ∙ around-moved (b .width) m (b .west))
-
-  reached-north : northSpan b (reached .cell) ≡ n
-  reached-north =
-      let N = f .north in
-      span-of-moved (b .height) (N .some) (N .small) n (b .south) (reached .cell .south) hn (ap around (reached .south) ∙ around-moved (b .height) n (b .south))
-
-  reached-spanned : (w : List ℕ) → spanned w b (reached .cell) ≡ text (referenceCode w m n)
-  reached-spanned w =
-      to-spanned w b (reached .cell) (referenceCode w m n)
-      (record {
-        fit-base = to-fit b f;
-        fit-target = to-fit (reached .cell) (reached .fit);
-        level = sym (reached .level);
-        east = rw reached-east (digit-fits m hm);
-        north = rw reached-north (digit-fits n hn);
-        same = rw (reached-east, reached-north) refl;
-      })
-
-  -- the target's cell is the base's, moved
-  reached-moved : MovedBy b (reached .cell) m n
-  unfolding movedTo
-  reached-moved =
-      let N = f .north in
-      record {
-        level = reached .level;
-        width = reached .wide;
-        height = reached .high;
-        west = ap around (reached .west) ∙ around-moved (b .width) m (b .west);
-        south = reached .south ∙ moved-sum (b .height) (N .some) (N .small) n (b .south) hn (f .south-in);
-      }
-
--- what the reader's text says of the code
-record Taken (w goal : List ℕ) : Type 0 where
-  formed : Formed w
-  starts : take (length w - 3) w ≡ formed .base
-  fits : Fit (formed .from)
-  away : index (targetSquare (formed .from) (formed .m) (formed .n) .latitude) < 648806400
-  same : codeOf (formed .from .level) (targetSquare (formed .from) (formed .m) (formed .n)) ≡ goal
-
-taken : (w goal : List ℕ) → targetText w ≡ text goal → Taken w goal
-unfolding targetText targetOf
-taken w goal e = go (aimOf w) refl e
-  where
-    go : (x : Answer Aim) → aimOf w ≡ x → ledTo x ≡ text goal → Taken w goal
-    go (refused r) q e = clash (cc)
-    go (accepted a) q e =
-        let g = formed-of w a q in
-        let f = g .0 in
-        let b = unless-text (fit (f .from)) 8 _ goal (subst (λ (x : Aim). ledTo (accepted x) ≡ text goal) (sym (g .1)) e) in
-        let c = unless-text (ltb (index (targetSquare (f .from) (f .m) (f .n) .latitude)) POLAR) 12 _ goal (b .1) in
-        record {
-          formed = f;
-          starts = formed-start w f;
-          fits = fit-of (f .base) (f .from) (f .read-base) (b .0);
-          away = ltb-true _ POLAR (c .0);
-          same = text-inj (c .1);
-        }
-
--- the writer's text for two cells that were read
-related-read : (w : List ℕ) (x y : Answer Cell) (b t : Cell) → x ≡ accepted b → y ≡ accepted t → related w x y ≡ spanned w b t
-related-read w x y b t p q = rw (p, q) refl
-
 pub read-written : (w goal : List ℕ) → targetText w ≡ text goal → referenceText (take (length w - 3) w) goal ≡ text w
 unfolding referenceText
 read-written w goal e =
@@ -216,116 +63,214 @@ read-written w goal e =
 
 -- ---- 3: the reader accepts a code exactly when it is a base, a hyphen and an offset that leads to a target; and that is what it writes
 
-leads-of : (w goal : List ℕ) → targetText w ≡ text goal → Leads w goal
-leads-of w goal e =
-    let a = taken w goal e in
-    let f = a .formed in
-    let t = reached (f .from) (f .m) (f .n) (a .fits) (f .east) (f .north) (a .away) in
-    record {
-      formed = f;
-      to = t .cell;
-      read-goal = ap cellOf (sym (a .same)) ∙ t .read;
-      fit-base = to-fit (f .from) (a .fits);
-      fit-goal = to-fit (t .cell) (t .fit);
-      moves = reached-moved (f .from) (f .m) (f .n) (a .fits) (f .east) (f .north) (a .away);
-    }
-
--- a base moved to a target: the square that is read is the target's corner
-moved-text : (b t : Cell) (m n : ℕ) (w : List ℕ) → Fit b → Fit t → offsetDigit m ≡ true → offsetDigit n ≡ true → MovedBy b t m n → cellOf w ≡ accepted t → targetOf b m n ≡ text w
-unfolding targetOf movedTo
-moved-text b t m n w fb ft hm hn v e =
-    let N = fb .north in
-    let x : moved (b .width) m (b .west) ≡ t .west = ap longitudeAt (sym (v .west)) ∙ longitudeAt-around (t .west) (ft .east .within) in
-    let y : moved (b .height) n (b .south) ≡ t .south = moved-sum (b .height) (N .some) (N .small) n (b .south) hn (fb .south-in) ∙ sym (v .south) in
-    let s : targetSquare b m n ≡ corner t = λ i. record { longitude = x i; latitude = y i } in
-    rw (to-fit b fb)
-    (subst (λ (q : Square). unless (ltb (index (q .latitude)) POLAR) 12 (text (codeOf (b .level) q)) ≡ text w) (sym s)
-    (rw (lt-ltb (index (t .south)) POLAR (ft .south-in), ← v .level) (ap text (sym (corner-code w t e ft)))))
-
-of-leads : (w goal : List ℕ) → Leads w goal → targetText w ≡ text goal
-unfolding targetText
-of-leads w goal l =
-    let f = l .formed in
-    ap ledTo (read-formed w f)
-    ∙ moved-text (f .from) (l .to) (f .m) (f .n) goal (fit-of (f .base) (f .from) (f .read-base) (l .fit-base)) (fit-of goal (l .to) (l .read-goal) (l .fit-goal)) (f .east) (f .north) (l .moves) (l .read-goal)
-
 pub leads-exactly-when : (w goal : List ℕ) → (targetText w ≡ text goal) ↔ Leads w goal
 leads-exactly-when w goal = (leads-of w goal, of-leads w goal)
 
 -- ---- 4: a base and an offset have a target exactly when the latitude that they lead to is ordinary, and get refusal 12 exactly otherwise
 
+unless-refused : (q : Bool) (k : ℕ) (w : List ℕ) (r : Refusal) → unless q k (text w) ≡ refuse r → q ≡ false
+unless-refused true k w r e = clash (cc)
+unless-refused false k w r e = refl
+
 module _ (base : List ℕ) (b : Cell) (m n : ℕ) (e : cellOf base ≡ accepted b) (f : fit b ≡ true) (hm : offsetDigit m ≡ true) (hn : offsetDigit n ≡ true) where
-  by-latitude : targetText (referenceCode base m n) ≡ unless (ltb (index (southAfter b n)) POLAR) 12 (text (codeOf (b .level) (targetSquare b m n)))
-  unfolding targetText targetOf
-  by-latitude =
-      let F = fit-of base b e f in
-      let N = F .north in
-      let y : moved (b .height) n (b .south) ≡ southAfter b n = moved-sum (b .height) (N .some) (N .small) n (b .south) hn (F .south-in) in
-      ap ledTo (read-formed _ (formed base b m n e hm hn))
-      ∙ rw f (ap (λ (z : ℤ). unless (ltb (index z) POLAR) 12 (text (codeOf (b .level) (targetSquare b m n)))) y)
-
   pub target-exactly-when : ((goal : List ℕ) × (targetText (referenceCode base m n) ≡ text goal)) ↔ (index (southAfter b n) < POLAR)
-  target-exactly-when = (
-    λ g. ltb-true (index (southAfter b n)) POLAR (unless-text (ltb (index (southAfter b n)) POLAR) 12 _ (g .0) (sym by-latitude ∙ g .1) .0),
-    λ h. (codeOf (b .level) (targetSquare b m n), by-latitude ∙ rw (lt-ltb (index (southAfter b n)) POLAR h) refl),
-  )
-
-  unless-refused : (q : Bool) (k : ℕ) (w : List ℕ) (r : Refusal) → unless q k (text w) ≡ refuse r → q ≡ false
-  unless-refused true k w r e = clash (cc)
-  unless-refused false k w r e = refl
+  target-exactly-when =
+      let y = by-latitude base b m n e f hm hn in (
+        λ g. ltb-true (index (southAfter b n)) POLAR (unless-text (ltb (index (southAfter b n)) POLAR) 12 _ (g .0) (sym y ∙ g .1) .0),
+        λ h. (codeOf (b .level) (targetSquare b m n), y ∙ rw (lt-ltb (index (southAfter b n)) POLAR h) refl),
+      )
 
   pub refused-exactly-when : (targetText (referenceCode base m n) ≡ refuse (refusal 12 0)) ↔ (POLAR ≤ index (southAfter b n))
-  refused-exactly-when = (
-    λ g. ltb-false (index (southAfter b n)) POLAR (unless-refused (ltb (index (southAfter b n)) POLAR) 12 (codeOf (b .level) (targetSquare b m n)) (refusal 12 0) (sym by-latitude ∙ g)),
-    λ h. by-latitude ∙ rw (le-ltb (index (southAfter b n)) POLAR h) refl,
-  )
+  refused-exactly-when =
+      let y = by-latitude base b m n e f hm hn in (
+        λ g. ltb-false (index (southAfter b n)) POLAR (unless-refused (ltb (index (southAfter b n)) POLAR) 12 (codeOf (b .level) (targetSquare b m n)) (refusal 12 0) (sym y ∙ g)),
+        λ h. y ∙ rw (le-ltb (index (southAfter b n)) POLAR h) refl,
+      )
 
--- ---- 5: a base and a target that fit and have one level get refusal 10 exactly when no offset leads from the one to the other
+-- ---- 5: a base and a target that fit and have one level: any offset that leads there is the one written, and 10 is given exactly when none does
 
 module _ (base goal : List ℕ) (b t : Cell) (eb : cellOf base ≡ accepted b) (et : cellOf goal ≡ accepted t) (f : fit b ≡ true) (g : fit t ≡ true) (l : b .level ≡ t .level) where
-  by-offset : referenceText base goal ≡ spelled base b t
-  unfolding referenceText spanned
-  by-offset = related-read base (cellOf base) (cellOf goal) b t eb et ∙ rw (f, g, eq-eqb (b .level) (t .level) l) refl
+  pub offset-written : (o : OffsetTo b t) → referenceText base goal ≡ text (referenceCode base (o .m) (o .n))
+  offset-written o =
+      let v = leads-by base goal b t eb et f g l o in
+      ap (λ (x : List ℕ). referenceText x goal) (sym (formed-start _ (v .formed))) ∙ read-written _ goal (of-leads _ goal v)
 
-  -- the offset that the writer finds
-  found-offset : eastSpan b t ≤ 16 → northSpan b t ≤ 16 → MovedBy b t (eastSpan b t) (northSpan b t)
-  unfolding movedTo
-  found-offset he hn =
-      let fb = fit-of base b eb f in
-      let ft = fit-of goal t et g in
-      let N = fb .north in
-      let x = east-leads b t fb ft l he hn in
-      let y = north-leads b t fb ft l he hn in
-      record {
-        level = sym l;
-        width = sym (same-width b t fb ft l he hn);
-        height = sym (same-height b t fb ft l he hn);
-        west = ap around (sym (x .1)) ∙ around-moved (b .width) (eastSpan b t) (b .west);
-        south = sym (y .1) ∙ moved-sum (b .height) (N .some) (N .small) (northSpan b t) (b .south) (y .0) (fb .south-in);
-      }
-
-  -- any offset that leads from the base to the target is the one written
-  pub offset-written : (m n : ℕ) → offsetDigit m ≡ true → offsetDigit n ≡ true → MovedBy b t m n → referenceText base goal ≡ text (referenceCode base m n)
-  offset-written m n hm hn v =
-      let r = referenceCode base m n in
-      let d = formed base b m n eb hm hn in
-      let e = of-leads r goal (record { formed = d; to = t; read-goal = et; fit-base = f; fit-goal = g; moves = v }) in
-      ap (λ (x : List ℕ). referenceText x goal) (sym (formed-start r d)) ∙ read-written r goal e
-
-  pub beyond-exactly-when : (referenceText base goal ≡ refuse (refusal 10 0)) ↔ ((m n : ℕ) → offsetDigit m ≡ true → offsetDigit n ≡ true → MovedBy b t m n → ⊥)
+  pub beyond-exactly-when : (referenceText base goal ≡ refuse (refusal 10 0)) ↔ (OffsetTo b t → ⊥)
   unfolding spelled
   beyond-exactly-when = (
-    λ e m n hm hn v. clash (let z : _≡_ {A = Text} (text (referenceCode base m n)) (refuse (refusal 10 0)) = sym (offset-written m n hm hn v) ∙ e in cc),
-    λ none. by-offset ∙ go (leb (eastSpan b t) 16 && leb (northSpan b t) 16) refl none,
+    λ e o. clash (let z : _≡_ {A = Text} (text (referenceCode base (o .m) (o .n))) (refuse (refusal 10 0)) = sym (offset-written o) ∙ e in cc),
+    λ none. by-offset base goal b t eb et f g l ∙ go (leb (eastSpan b t) 16 && leb (northSpan b t) 16) refl none,
   )
     where
-      go : (q : Bool) → (leb (eastSpan b t) 16 && leb (northSpan b t) 16) ≡ q → ((m n : ℕ) → offsetDigit m ≡ true → offsetDigit n ≡ true → MovedBy b t m n → ⊥)
+      go : (q : Bool) → (leb (eastSpan b t) 16 && leb (northSpan b t) 16) ≡ q → (OffsetTo b t → ⊥)
           → unless q 10 (text (referenceCode base (eastSpan b t) (northSpan b t))) ≡ refuse (refusal 10 0)
       go true e none =
           let o = and-true (leb (eastSpan b t) 16) (leb (northSpan b t) 16) e in
-          let he : eastSpan b t ≤ 16 = leb-true (eastSpan b t) 16 (o .0) in
-          let hn : northSpan b t ≤ 16 = leb-true (northSpan b t) 16 (o .1) in
-          let fb = fit-of base b eb f in
-          let ft = fit-of goal t et g in
-          absurd (none (eastSpan b t) (northSpan b t) (east-leads b t fb ft l he hn .0) (north-leads b t fb ft l he hn .0) (found-offset he hn))
+          absurd (none (found-offset base goal b t eb et f g l (leb-true (eastSpan b t) 16 (o .0)) (leb-true (northSpan b t) 16 (o .1))))
       go false e none = refl
+
+-- ---- 6: reference codes, wherever they lead: their lengths, and the place of refusal 7
+
+-- what is read as base, M and N is what the rules form
+pub formed-exactly-when : (w : List ℕ) → Accepted aimOf w ↔ Formed w
+formed-exactly-when w = (λ a. formed-of w (a .0) (a .1) .0, λ f. (parts f, read-formed w f))
+
+-- 6 and 7 of it exactly when, as of plane codes
+pub reference-places : Places aimOf referenceLengths
+reference-places = places-of aimOf referenceLengths answered some-code
+
+-- 8 and 12 come after them
+aim-refused : (w : List ℕ) (r : Refusal) → r .number < 8 → (targetText w ≡ refuse r) ↔ (aimOf w ≡ refused r)
+unfolding targetText targetOf
+aim-refused w r few = (λ e. go (aimOf w) e, λ e. ap ledTo e)
+  where
+    number : Text → ℕ
+    number (refuse r) = r .number
+    number (text w) = 0
+
+    later : (p q : Bool) (v : List ℕ) → unless p 8 (unless q 12 (text v)) ≡ refuse r → ⊥
+    later true true v e = clash (cc)
+    later true false v e = let z : 12 ≡ r .number = ap number e in omega arith
+    later false q v e = let z : 8 ≡ r .number = ap number e in omega arith
+
+    go : (x : Answer Aim) → ledTo x ≡ refuse r → x ≡ refused r
+    go (refused q) e = cc
+    go (accepted a) e = absurd (later (fit (a .from)) (ltb (index (targetSquare (a .from) (a .m) (a .n) .latitude)) POLAR) _ e)
+
+-- the reader gives 6 exactly when the total less 3 is no plane length
+pub six-exactly-when : (w : List ℕ) → (targetText w ≡ refuse wrongLength) ↔ (among (length w - 3) planeLengths ≡ false)
+six-exactly-when w =
+    let a = aim-refused w wrongLength (omega arith) in
+    let b = reference-places .six-exactly-when w in
+    (λ e. sym (less-three (length w)) ∙ b .0 (a .0 e), λ h. a .1 (b .1 (less-three (length w) ∙ h)))
+
+-- and 7 at p exactly when p is the first place at which no reference code of that length, wherever it leads, goes on
+pub seven-exactly-when : (w : List ℕ) (p : ℕ) → (targetText w ≡ refuse (wrongCharacter p)) ↔ FirstBad aimOf w p
+seven-exactly-when w p =
+    let a = aim-refused w (wrongCharacter p) (omega arith) in
+    let b = reference-places .seven-exactly-when w p in
+    (λ e. b .0 (a .0 e), λ h. a .1 (b .1 h))
+
+-- ---- 7: each answer exactly when its reason holds, in the paper's order
+
+module _ (base goal : List ℕ) where
+  -- the writer's text for two cells that were read
+  spans : (b t : Cell) → CodesOf base goal b t → referenceText base goal ≡ spanned base b t
+  unfolding referenceText
+  spans b t c = related-read base (cellOf base) (cellOf goal) b t (c .base-is) (c .target-is)
+
+  not-both : (b t : Cell) → CodesOf base goal b t → (fit b && fit t) ≡ false → referenceText base goal ≡ refuse (refusal 8 0)
+  unfolding spanned
+  not-both b t c p = spans b t c ∙ rw p refl
+
+  not-one-level : (b t : Cell) → CodesOf base goal b t → (fit b && fit t) ≡ true → (b .level ≡ t .level → ⊥) → referenceText base goal ≡ refuse (refusal 9 0)
+  unfolding spanned
+  not-one-level b t c p d = spans b t c ∙ rw (p, ne-eqb (b .level) (t .level) d) refl
+
+  because : {t : Text} → referenceText base goal ≡ t → WhyWritten base goal t → WhyWritten base goal (referenceText base goal)
+  because e y = subst (WhyWritten base goal) (sym e) y
+
+  -- what is answered to the codes of two cells has its reason
+  why-spanned : (b t : Cell) → CodesOf base goal b t → WhyWritten base goal (referenceText base goal)
+  unfolding spelled
+  why-spanned b t c = go (fit b && fit t) refl (eqb (b .level) (t .level)) refl (leb (eastSpan b t) 16 && leb (northSpan b t) 16) refl
+    where
+      go : (p : Bool) → (fit b && fit t) ≡ p → (q : Bool) → eqb (b .level) (t .level) ≡ q → (r : Bool) → (leb (eastSpan b t) 16 && leb (northSpan b t) 16) ≡ r
+          → WhyWritten base goal (referenceText base goal)
+      go false p q d r e = because (not-both b t c p) (eight c p)
+      go true p false d r e = because (not-one-level b t c p (eqb-false (b .level) (t .level) d)) (nine c p (eqb-false (b .level) (t .level) d))
+      go true p true d r e = near r e
+        where
+          x : (fit b ≡ true) × (fit t ≡ true)
+          x = and-true (fit b) (fit t) p
+
+          l : b .level ≡ t .level
+          l = eqb-true (b .level) (t .level) d
+
+          near : (r : Bool) → (leb (eastSpan b t) 16 && leb (northSpan b t) 16) ≡ r → WhyWritten base goal (referenceText base goal)
+          near false e =
+              let z : referenceText base goal ≡ refuse (refusal 10 0) = by-offset base goal b t (c .base-is) (c .target-is) (x .0) (x .1) l ∙ rw e refl in
+              because z (ten c p l (beyond-exactly-when base goal b t (c .base-is) (c .target-is) (x .0) (x .1) l .0 z))
+          near true e =
+              let y = and-true (leb (eastSpan b t) 16) (leb (northSpan b t) 16) e in
+              let o = found-offset base goal b t (c .base-is) (c .target-is) (x .0) (x .1) l (leb-true (eastSpan b t) 16 (y .0)) (leb-true (northSpan b t) 16 (y .1)) in
+              because (offset-written base goal b t (c .base-is) (c .target-is) (x .0) (x .1) l o) (code c p o)
+
+  -- the base's refusal, or the target's
+  base-refused : {r : Refusal} → cellOf base ≡ refused r → referenceText base goal ≡ refuse r
+  unfolding referenceText
+  base-refused e = rw e refl
+
+  target-refused : {r : Refusal} → Accepted cellOf base → cellOf goal ≡ refused r → referenceText base goal ≡ refuse (ofSecond r)
+  unfolding referenceText
+  target-refused b e = rw (b .1, e) refl
+
+  why-written : WhyWritten base goal (referenceText base goal)
+  why-written = elim (plane-places .accepted-six-or-seven base) [
+    | inl b ↦ elim (plane-places .accepted-six-or-seven goal) [
+      | inl t ↦ why-spanned (b .0) (t .0) (record { base-is = b .1; target-is = t .1 })
+      | inr (inl e) ↦ because (target-refused b e) (target-six b (plane-places .six-exactly-when goal .0 e))
+      | inr (inr e) ↦ because (target-refused b (e .1)) (target-seven b (plane-places .seven-exactly-when goal (e .0) .0 (e .1)))
+    ]
+    | inr (inl e) ↦ because (base-refused e) (base-six (plane-places .six-exactly-when base .0 e))
+    | inr (inr e) ↦ because (base-refused (e .1)) (base-seven (plane-places .seven-exactly-when base (e .0) .0 (e .1)))
+  ]
+
+  -- and what has its reason is answered
+  so-written : (t : Text) → WhyWritten base goal t → referenceText base goal ≡ t
+  so-written _ (base-six n) = base-refused (plane-places .six-exactly-when base .1 n)
+  so-written _ (base-seven {p} b) = base-refused (plane-places .seven-exactly-when base p .1 b)
+  so-written _ (target-six a n) = target-refused a (plane-places .six-exactly-when goal .1 n)
+  so-written _ (target-seven {p} a b) = target-refused a (plane-places .seven-exactly-when goal p .1 b)
+  so-written _ (eight {b} {t} c p) = not-both b t c p
+  so-written _ (nine {b} {t} c p d) = not-one-level b t c p d
+  so-written _ (ten {b} {t} c p l none) =
+      let x = and-true (fit b) (fit t) p in
+      beyond-exactly-when base goal b t (c .base-is) (c .target-is) (x .0) (x .1) l .1 none
+  so-written _ (code {b} {t} c p o) =
+      let x = and-true (fit b) (fit t) p in
+      offset-written base goal b t (c .base-is) (c .target-is) (x .0) (x .1) (sym (o .moves .level)) o
+
+  -- the writer's answers
+  pub written-exactly-when : (t : Text) → (referenceText base goal ≡ t) ↔ WhyWritten base goal t
+  written-exactly-when t = (λ e. subst (WhyWritten base goal) e why-written, so-written t)
+
+module _ (w : List ℕ) where
+  leads-pole : (f : Formed w) → fit (f .from) ≡ true → POLAR ≤ index (southAfter (f .from) (f .n)) → targetText w ≡ refuse (refusal 12 0)
+  leads-pole f p h = ap targetText (sym (f .form)) ∙ refused-exactly-when (f .base) (f .from) (f .m) (f .n) (f .read-base) p (f .east) (f .north) .1 h
+
+  base-unfit : (f : Formed w) → fit (f .from) ≡ false → targetText w ≡ refuse (refusal 8 0)
+  unfolding targetText targetOf
+  base-unfit f p = ap ledTo (read-formed w f) ∙ rw p refl
+
+  why-formed : Formed w → WhyRead w (targetText w)
+  why-formed f = go (fit (f .from)) refl (ltb (index (southAfter (f .from) (f .n))) POLAR) refl
+    where
+      go : (p : Bool) → fit (f .from) ≡ p → (q : Bool) → ltb (index (southAfter (f .from) (f .n))) POLAR ≡ q → WhyRead w (targetText w)
+      go false p q d = subst (WhyRead w) (sym (base-unfit f p)) (not-fit f p)
+      go true p false d =
+          let h = ltb-false (index (southAfter (f .from) (f .n))) POLAR d in
+          subst (WhyRead w) (sym (leads-pole f p h)) (twelve f p h)
+      go true p true d =
+          let g = target-exactly-when (f .base) (f .from) (f .m) (f .n) (f .read-base) p (f .east) (f .north) .1 (ltb-true (index (southAfter (f .from) (f .n))) POLAR d) in
+          let e : targetText w ≡ text (g .0) = ap targetText (sym (f .form)) ∙ g .1 in
+          subst (WhyRead w) (sym e) (target (leads-of w (g .0) e))
+
+  why-read : WhyRead w (targetText w)
+  unfolding targetText
+  why-read = elim (reference-places .accepted-six-or-seven w) [
+    | inl a ↦ why-formed (formed-of w (a .0) (a .1) .0)
+    | inr (inl e) ↦ (let z = ap ledTo e in subst (WhyRead w) (sym z) (six (six-exactly-when w .0 z)))
+    | inr (inr e) ↦ (let z = ap ledTo (e .1) in subst (WhyRead w) (sym z) (seven (seven-exactly-when w (e .0) .0 z)))
+  ]
+
+  so-read : (t : Text) → WhyRead w t → targetText w ≡ t
+  so-read _ (six n) = six-exactly-when w .1 n
+  so-read _ (seven {p} b) = seven-exactly-when w p .1 b
+  so-read _ (not-fit f p) = base-unfit f p
+  so-read _ (twelve f p h) = leads-pole f p h
+  so-read _ (target {goal} l) = of-leads w goal l
+
+  -- the reader's answers
+  pub read-exactly-when : (t : Text) → (targetText w ≡ t) ↔ WhyRead w t
+  read-exactly-when t = (λ e. subst (WhyRead w) e why-read, so-read t)

@@ -1,3 +1,4 @@
 pub mod Offsets
 pub mod Text
+pub mod Reasons
 pub mod inner

@@ -117,17 +117,6 @@ targetText w = ledTo (aimOf w)
 
 -- ---- what a reference code and its offset mean
 
--- w is a reference code, wherever it leads: an accepted plane code, which is its base's, a hyphen, and M and N, each 0 to 7 or A to G
-pub record Formed (w : List ℕ) : Type 0 where
-  pub base : List ℕ
-  pub from : Cell
-  pub m : ℕ
-  pub n : ℕ
-  pub form : referenceCode base m n ≡ w
-  pub read-base : cellOf base ≡ accepted from
-  pub east : offsetDigit m ≡ true
-  pub north : offsetDigit n ≡ true
-
 -- the south edge of b, n heights northward
 abbrev pub southAfter : Cell → ℕ → ℤ
 southAfter b n = b .south +ℤ offset n *ℤ pos (b .height)
@@ -139,6 +128,25 @@ pub record MovedBy (b d : Cell) (m n : ℕ) : Type 0 where
   pub height : d .height ≡ b .height
   pub west : around (d .west) ≡ around (b .west +ℤ offset m *ℤ pos (b .width))
   pub south : d .south ≡ southAfter b n
+
+-- an offset that leads from b to t: M and N, each 0 to 7 or A to G, by which t is b moved
+pub record OffsetTo (b t : Cell) : Type 0 where
+  pub m : ℕ
+  pub n : ℕ
+  pub east : offsetDigit m ≡ true
+  pub north : offsetDigit n ≡ true
+  pub moves : MovedBy b t m n
+
+-- w is a reference code, wherever it leads: an accepted plane code, which is its base's, a hyphen, and M and N, each 0 to 7 or A to G
+pub record Formed (w : List ℕ) : Type 0 where
+  pub base : List ℕ
+  pub from : Cell
+  pub m : ℕ
+  pub n : ℕ
+  pub form : referenceCode base m n ≡ w
+  pub read-base : cellOf base ≡ accepted from
+  pub east : offsetDigit m ≡ true
+  pub north : offsetDigit n ≡ true
 
 -- the reference code w leads to the plane code goal, which is the code of the base's cell moved by M and N;
 -- both are ordinary and of level 5 or finer

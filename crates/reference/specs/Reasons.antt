@@ -1,0 +1,52 @@
+-- Which answer is given when: the writer's and the reader's answers, each with its reason, in document 01's order.
+-- Assumes nothing.
+use mathlib.Core.Path.{_≡_}
+use mathlib.Core.Bool.{true, false, _&&_}
+use mathlib.Core.List.{List}
+use Prim.Native.Nat.{ℕ, _-_, _≤_}
+use lib.ListN.{length}
+use Rattle.grid.specs.declared.Cell.{Cell}
+use Rattle.grid.specs.Units.{POLAR, index}
+use Rattle.grid.specs.Answers.{accepted, refusal, wrongLength, wrongCharacter}
+use Rattle.grid.specs.Places.{among, Accepted, FirstBad}
+use Rattle.grid.specs.Splits.{planeLengths}
+use Rattle.grid.specs.Laying.{Text, refuse, text}
+use Rattle.grid.specs.Plane.{cellOf}
+use Rattle.reference.specs.Text.{fit, referenceCode, ofSecond, aimOf, southAfter, OffsetTo, Formed, Leads}
+
+-- base and goal are the codes of the cells b and t
+pub record CodesOf (base goal : List ℕ) (b t : Cell) : Type 0 where
+  pub base-is : cellOf base ≡ accepted b
+  pub target-is : cellOf goal ≡ accepted t
+
+-- the writer's answers to a base's code and a target's
+pub data WhyWritten (base goal : List ℕ) : Text → Type 0 where
+  -- 6 and 7 of the base: its length is no plane code's; p is the first place at which no plane code of its length goes on
+  base-six : among (length base) planeLengths ≡ false → WhyWritten base goal (refuse wrongLength)
+  base-seven : {p : ℕ} → FirstBad cellOf base p → WhyWritten base goal (refuse (wrongCharacter p))
+  -- 6 and 7 of the target, with ordinal 2: the base is accepted
+  target-six : Accepted cellOf base → among (length goal) planeLengths ≡ false → WhyWritten base goal (refuse (ofSecond wrongLength))
+  target-seven : {p : ℕ} → Accepted cellOf base → FirstBad cellOf goal p → WhyWritten base goal (refuse (ofSecond (wrongCharacter p)))
+  -- 8: base or target is below level 5 or polar
+  eight : {b t : Cell} → CodesOf base goal b t → (fit b && fit t) ≡ false → WhyWritten base goal (refuse (refusal 8 0))
+  -- 9: neither is, and their levels differ
+  nine : {b t : Cell} → CodesOf base goal b t → (fit b && fit t) ≡ true → (b .level ≡ t .level → ⊥) → WhyWritten base goal (refuse (refusal 9 0))
+  -- 10: nor do they differ, and no offset leads from the base to the target
+  ten : {b t : Cell} → CodesOf base goal b t → (fit b && fit t) ≡ true → b .level ≡ t .level → (OffsetTo b t → ⊥)
+      → WhyWritten base goal (refuse (refusal 10 0))
+  -- the reference code: an offset leads there
+  code : {b t : Cell} → CodesOf base goal b t → (fit b && fit t) ≡ true → (o : OffsetTo b t)
+      → WhyWritten base goal (text (referenceCode base (o .m) (o .n)))
+
+-- the reader's answers to a reference code
+pub data WhyRead (w : List ℕ) : Text → Type 0 where
+  -- 6: the total less 3 is no plane length
+  six : among (length w - 3) planeLengths ≡ false → WhyRead w (refuse wrongLength)
+  -- 7: p is the first place at which no reference code of that length, wherever it leads, goes on
+  seven : {p : ℕ} → FirstBad aimOf w p → WhyRead w (refuse (wrongCharacter p))
+  -- 8: the base is below level 5 or polar
+  not-fit : (f : Formed w) → fit (f .from) ≡ false → WhyRead w (refuse (refusal 8 0))
+  -- 12: the base is neither, and the code leads to 88° or nearer a pole
+  twelve : (f : Formed w) → fit (f .from) ≡ true → POLAR ≤ index (southAfter (f .from) (f .n)) → WhyRead w (refuse (refusal 12 0))
+  -- the target's plane code: the code leads there
+  target : {goal : List ℕ} → Leads w goal → WhyRead w (text goal)
