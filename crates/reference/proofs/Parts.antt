@@ -82,8 +82,8 @@ pub span-far : (size d : ℕ) → 8 ≤ d / size → 9 + (2654208000 - d) / size
 unfolding spanIn
 span-far size d h = rw (le-ltb (d / size) 8 h) refl
 
-pub far-fits : (size d : ℕ) → Fits w32 (9 + (2654208000 - d) / size)
-far-fits size d = let l : (2654208000 - d) / size ≤ 2654208000 - d = div-le-self (2654208000 - d) size in record { fits = omega arith }
+pub far-fits : (size d : ℕ) → d ≤ 2654208000 → Fits w32 (9 + d / size)
+far-fits size d h = let l : d / size ≤ d = div-le-self d size in record { fits = omega arith }
 
 pub digit-low : (v : ℕ) → v < 8 → true ≡ offsetDigit v
 digit-low v h = rw (lt-ltb v 8 h) refl
@@ -94,8 +94,8 @@ digit-between v h k = rw (le-ltb v 8 h, lt-leb 10 v k) refl
 pub digit-high : (v : ℕ) → 8 ≤ v → 10 ≤ v → leb v 16 ≡ offsetDigit v
 digit-high v h k = rw (le-ltb v 8 h, le-leb 10 v k) refl
 
-pub same-span : (size : ℕ) (a b : ℤ) {r : ℕ} → SFits w32 a → SFits w32 b → r ≡ spanOf size (toZ w32 (ofZ w32 a)) (toZ w32 (ofZ w32 b)) → r ≡ spanOf size a b
-same-span size a b f g e = rw (toZ-ofZ f, toZ-ofZ g) at e
+pub same-span : (size : ℕ) (a b : ℤ) {r : ℕ} → r ≡ spanOf size (toZ w32 (ofZ w32 a)) (toZ w32 (ofZ w32 b)) → SFits w32 a → SFits w32 b → r ≡ spanOf size a b
+same-span size a b e f g = rw (toZ-ofZ f, toZ-ofZ g) at e
 
 module _ (a b : ℤ) {x y : ℕ} (ex : x ≡ around a) (ey : y ≡ around b) where
   pub apart-onward : x ≤ y → (y - x ≡ between a b) × (y - x < TURN)

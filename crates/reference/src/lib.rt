@@ -188,15 +188,15 @@ fn on(a: u32, d: u32) -> u32
 }
 
 // A number moved by an offset's digit, as its remainder by a turn.
-fn moved_to(size: u32, v: u32, z: i32) -> u32
-    requires { ⌜ (0 < size) × (size ≤ 8192) × (offsetDigit v ≡ true) ⌝ }
-    ensures { λ r. ⌜ (r ≡ movedTo size v z) × (r < TURN) ⌝ }
+fn moved_to(size: u32, digit: u32, z: i32) -> u32
+    requires { ⌜ (0 < size) × (size ≤ 8192) × (offsetDigit digit ≡ true) ⌝ }
+    ensures { λ r. ⌜ (r ≡ movedTo size digit z) × (r < TURN) ⌝ }
 {
     let a = remainder(z);
-    if v < 8 {
-        return on(a, v * size);
+    if digit < 8 {
+        return on(a, digit * size);
     }
-    on(a, TURN - (v - 9) * size)
+    on(a, TURN - (digit - 9) * size)
 }
 
 // The outward index of the number with a remainder.

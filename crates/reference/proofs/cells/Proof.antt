@@ -1,4 +1,6 @@
 -- `reference::cells` meets its contract. Assumes nothing.
+use Prim.Native.Nat.{_-_}
+use native.Mathlib.Omega.{arith}
 use Rattle.reference.proofs.Parts.{span-near, span-far, far-fits}
 use borrow.Author.Needs.{needs}
 use Rattle.reference.proofs.cells.Statement.{statement}
@@ -17,7 +19,7 @@ div-result : tie.Need-div-result
 div-result c = search needs
 
 add-result : tie.Need-add-result
-add-result c = far-fits (c .before .args .size) (c .before .args .d)
+add-result c = far-fits (c .before .args .size) (2654208000 - c .before .args .d) (omega arith)
 
 returns-2 : tie.Need-returns-2
 returns-2 c = span-far (c .before .args .size) (c .before .args .d) (c .if1 .left)

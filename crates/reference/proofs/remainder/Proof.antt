@@ -1,4 +1,6 @@
 -- `reference::remainder` meets its contract. Assumes nothing.
+use Prim.Native.Nat.{_≤_}
+use native.Mathlib.Omega.{arith}
 use Rattle.reference.proofs.Parts.{below-turn, negative, positive}
 use borrow.Author.Needs.{needs}
 use Rattle.reference.proofs.remainder.Statement.{statement}
@@ -8,7 +10,7 @@ outward-requires : tie.Need-outward-requires
 outward-requires c κs = search needs
 
 sub-result : tie.Need-sub-result
-sub-result c = below-turn (c .before .before .args .z) (c .before .before .fits .z) (c .outward .ensures)
+sub-result c = let h : c .outward .result ≤ 2654207999 = below-turn (c .before .before .args .z) (c .before .before .fits .z) (c .outward .ensures) in omega arith
 
 outward-requires-2 : tie.Need-outward-requires-2
 outward-requires-2 c κs = search needs

@@ -13,7 +13,7 @@ cells-requires : tie.Need-cells-requires
 cells-requires c κs = search needs
 
 returns : tie.Need-returns
-returns c = same-span (c .before .before .args .size) (c .before .before .args .a) (c .before .before .args .b) (c .before .before .fits .a) (c .before .before .fits .b) (c .cells .ensures ∙ ap (spanIn (c .before .before .args .size)) (c .before .apart .ensures .0))
+returns c = same-span (c .before .before .args .size) (c .before .before .args .a) (c .before .before .args .b) (c .cells .ensures ∙ ap (spanIn (c .before .before .args .size)) (c .before .apart .ensures .0)) (c .before .before .fits .a) (c .before .before .fits .b)
 
 pub span-spec : {M : Type 1} → statement M
 span-spec = tie.close (tie.spec apart-requires cells-requires returns)
