@@ -23,7 +23,7 @@ use Rattle.grid.proofs.Refusing.{places-of}
 use Rattle.grid.proofs.Theorems.{plane-places}
 use Rattle.reference.specs.Offsets.{offsetDigit}
 use Rattle.reference.specs.Text.{fit, eastSpan, northSpan, referenceCode, ofSecond, spelled, spanned, referenceText, targetSquare, targetOf, Aim, aimOf, referenceLengths, ledTo, targetText, southAfter, OffsetTo, Formed, Leads}
-use Rattle.reference.specs.Reasons.{CodesOf, WhyWritten, base-six, base-seven, target-six, target-seven, eight, nine, ten, code, WhyRead, six, seven, not-fit, twelve, target}
+use Rattle.reference.specs.Reasons.{CodesOf, WhyWritten, base-six, base-seven, target-six, target-seven, eight, nine, ten, an-offset, WhyRead, six, seven, not-fit, twelve, target}
 use Rattle.reference.proofs.Corners.{fit-of}
 use Rattle.reference.proofs.Spelling.{formed, formed-start, parts, read-formed, formed-of}
 use Rattle.reference.proofs.Places.{less-three, answered, some-code}
@@ -194,7 +194,7 @@ module _ (base goal : List ℕ) where
           near true e =
               let y = and-true (leb (eastSpan b t) 16) (leb (northSpan b t) 16) e in
               let o = found-offset base goal b t (c .base-is) (c .target-is) (x .0) (x .1) l (leb-true (eastSpan b t) 16 (y .0)) (leb-true (northSpan b t) 16 (y .1)) in
-              because (offset-written base goal b t (c .base-is) (c .target-is) (x .0) (x .1) l o) (code c p o)
+              because (offset-written base goal b t (c .base-is) (c .target-is) (x .0) (x .1) l o) (an-offset c p o)
 
   -- the base's refusal, or the target's
   base-refused : {r : Refusal} → cellOf base ≡ refused r → referenceText base goal ≡ refuse r
@@ -227,7 +227,7 @@ module _ (base goal : List ℕ) where
   so-written _ (ten {b} {t} c p l none) =
       let x = and-true (fit b) (fit t) p in
       beyond-exactly-when base goal b t (c .base-is) (c .target-is) (x .0) (x .1) l .1 none
-  so-written _ (code {b} {t} c p o) =
+  so-written _ (an-offset {b} {t} c p o) =
       let x = and-true (fit b) (fit t) p in
       offset-written base goal b t (c .base-is) (c .target-is) (x .0) (x .1) (sym (o .moves .level)) o
 

@@ -35,7 +35,7 @@ pub data WhyWritten (base goal : List ℕ) : Text → Type 0 where
   ten : {b t : Cell} → CodesOf base goal b t → (fit b && fit t) ≡ true → b .level ≡ t .level → (OffsetTo b t → ⊥)
       → WhyWritten base goal (refuse (refusal 10 0))
   -- the reference code: an offset leads there
-  code : {b t : Cell} → CodesOf base goal b t → (fit b && fit t) ≡ true → (o : OffsetTo b t)
+  an-offset : {b t : Cell} → CodesOf base goal b t → (fit b && fit t) ≡ true → (o : OffsetTo b t)
       → WhyWritten base goal (text (referenceCode base (o .m) (o .n)))
 
 -- the reader's answers to a reference code
