@@ -2,6 +2,5 @@ pub mod Whole
 pub mod Pattern
 pub mod Number
 pub mod Exact
-pub mod Corner
 pub mod Meaning
 pub mod Theorems

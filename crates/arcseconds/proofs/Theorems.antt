@@ -14,6 +14,7 @@ use Rattle.grid.specs.Units.{HALF, QUARTER, index}
 use Rattle.grid.specs.Answers.{Answer, accepted, refused, refusal}
 use Rattle.grid.specs.Plane.{cellOf}
 use Rattle.grid.proofs.Cut.{clash}
+use Rattle.grid.proofs.Ranges.{plane-in-ranges}
 use Rattle.arcseconds.specs.declared.Units.{Units}
 use Rattle.arcseconds.specs.declared.UnitsRead.{UnitsRead}
 use Rattle.arcseconds.specs.declared.UnitsRead.the-variants as units-read
@@ -24,7 +25,6 @@ use Rattle.arcseconds.specs.Readings.{greatestWhole, readingOf, units, u
 use Rattle.arcseconds.specs.Boxes.{SecondsOf, BoxOf, BoxSays}
 use Rattle.arcseconds.proofs.Whole.{whole-is, whole-only}
 use Rattle.arcseconds.proofs.Exact.{one-exactly}
-use Rattle.arcseconds.proofs.Corner.{corner-in}
 use Rattle.arcseconds.proofs.Meaning.{both-whole, why, so, seconds-whole}
 
 -- ---- the floor
@@ -62,8 +62,8 @@ box-back w b h = go (cellOf w) refl h
   where
     go : (a : Answer Cell) → cellOf w ≡ a → BoxSays a (Found b) → (c : Cell) × (cellOf w ≡ accepted c) × (unitsOf (b .west) (b .south) ≡ accepted (units (c .west) (c .south)))
     go (accepted c) e v =
-        let i = corner-in w c e in
-        (c, e, units-back (c .west) (c .south) (b .west) (b .south) (i .west-in) (i .south-in) (v .west-is .value) (v .south-is .value))
+        let i = plane-in-ranges w c e in
+        (c, e, units-back (c .west) (c .south) (b .west) (b .south) (i .west-in) (i .rows-in .begins-in) (v .west-is .value) (v .south-is .value))
     go (refused r) e v = absurd v
 
 -- ---- each contract allows one result

@@ -142,7 +142,7 @@ module _ (K : Codes) (S : Sound K) where
   pub found-level : (w : List ℕ) (c : K .Cell) (f : Found w c) → S .level c ≡ f .l
   found-level w c f = sym (ap (S .level) (f .same)) ∙ S .level-at (f .l) (f .node)
 
-  found-good : (w : List ℕ) (c : K .Cell) (f : Found w c) → S .laws .Good [] (f .node)
+  pub found-good : (w : List ℕ) (c : K .Cell) (f : Found w c) → S .laws .Good [] (f .node)
   found-good w c f = follow-good (K .tree) (S .laws) (take (f .l) (K .levels)) (K .root) (map digitOf w) (f .node) (S .fits (f .l) (f .high)) (f .read)
 
   abbrev digits-at : ℕ → K .tree .Point → List ℕ

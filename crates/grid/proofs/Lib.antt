@@ -16,4 +16,5 @@ pub mod LayerLaws
 pub mod Places
 pub mod BothLaws
 pub mod Theorems
+pub mod Ranges
 pub mod Laying

@@ -1,10 +1,11 @@
--- What a reader hands back, and which unit squares and cubes it has.
+-- What a reader hands back: which unit squares and cubes it has, and that it lies in the ranges.
 -- Assumes nothing.
 use Prim.Native.Nat.{ℕ, _+_, _-_, _%_, _≤_, _<_}
-use lib.IntN.{ℤ, pos, negsuc}
+use lib.IntN.{ℤ, pos, negsuc, _+ℤ_}
+use lib.Signed.{_≤ℤ_}
 use Rattle.grid.specs.declared.Cell.{Cell}
 use Rattle.grid.specs.declared.SpaceCell.{SpaceCell}
-use Rattle.grid.specs.Units.{TURN, Square, Cube}
+use Rattle.grid.specs.Units.{TURN, HALF, QUARTER, LAYERS, index, Square, Cube}
 
 -- a longitude's remainder by a full turn: longitudes a full turn apart are the same
 abbrev pub around : ℤ → ℕ
@@ -30,3 +31,21 @@ pub record Covers (c : Cell) (s : Square) : Type 0 where
 pub record CoversCube (c : SpaceCell) (s : Cube) : Type 0 where
   pub plan : Covers (c .cell) (s .0)
   pub high : Within (c .floor) (c .thickness) (s .1)
+
+-- the n numbers from `from` on, at least one, lie in the range of so many numbers below 0 and as many from 0 on
+pub record RunIn (most : ℕ) (from : ℤ) (n : ℕ) : Type 0 where
+  pub begins-in : index from < most
+  pub some : 0 < n
+  pub ends-in : (from +ℤ pos n) ≤ℤ pos most
+
+-- west lies in the longitude range, and the cell runs eastward from it by at most a turn; its rows, from south to the north edge, lie in the latitude range
+pub record InRanges (c : Cell) : Type 0 where
+  pub west-in : index (c .west) < HALF
+  pub wide : 0 < c .width
+  pub at-most-a-turn : c .width ≤ TURN
+  pub rows-in : RunIn QUARTER (c .south) (c .height)
+
+-- the same of its plane cell, and its layers, from floor to top, lie in the layers' range
+pub record SpaceInRanges (c : SpaceCell) : Type 0 where
+  pub plan-in : InRanges (c .cell)
+  pub layers-in : RunIn LAYERS (c .floor) (c .thickness)

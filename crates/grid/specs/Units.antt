@@ -8,24 +8,27 @@ use lib.IntN.{ℤ, pos, negsuc}
 abbrev pub MINUTE : ℕ
 MINUTE = 60 * 2048
 
--- one degree
+-- one degree: 7,372,800 units
 abbrev pub DEGREE : ℕ
 DEGREE = 60 * MINUTE
 
--- 360°, 180° and 90°
+-- a full turn, 360°
 abbrev pub TURN : ℕ
 TURN = 360 * DEGREE
 
+-- 180°: so many longitudes from 0 on, and as many below
 abbrev pub HALF : ℕ
 HALF = 180 * DEGREE
 
+-- 90°: so many latitudes from 0 on, and as many below
 abbrev pub QUARTER : ℕ
 QUARTER = 90 * DEGREE
 
--- 88°, where the ordinary cells end, and 89°, where the belt ends and the disc begins
+-- 88°, where the ordinary cells end
 abbrev pub POLAR : ℕ
 POLAR = 88 * DEGREE
 
+-- 89°, where the belt ends and the disc begins
 abbrev pub DISC : ℕ
 DISC = 89 * DEGREE
 

@@ -1,10 +1,10 @@
--- Document 01's cases P1 to P13, and the codes that it says are refused, as one table: what each asks for, and what it is to give.
+-- One table of what is asked and what document 01 says: its cases P1 to P13, the codes that it says are refused, and the cells about the poles.
 -- Assumes nothing.
-use mathlib.Core.List.{List, [], _∷_}
-use Prim.Native.Nat.{ℕ}
+use mathlib.Core.List.{List, [], _∷_, _++_}
+use Prim.Native.Nat.{ℕ, _+_, _*_}
 use Prim.Native.Char.{code}
 use Prim.Native.String.{String}
-use lib.IntN.{ℤ, pos, negℤ}
+use lib.IntN.{ℤ, pos, negℤ, _-ℤ_}
 use Rattle.grid.specs.declared.Cell.{Cell}
 use Rattle.grid.specs.declared.SpaceCell.{SpaceCell}
 use Rattle.grid.specs.Answers.{Answer, accepted, refused, refusal}
@@ -23,6 +23,17 @@ bytes (String._∷_ c t) = code c ∷ bytes t
 -- a number below 0
 abbrev pub - : ℕ → ℤ
 - n = negℤ (pos n)
+
+-- d degrees and m minutes, in units
+abbrev pub deg : ℕ → ℕ → ℕ
+deg d m = d * 7372800 + m * 60 * 2048
+
+-- the latitude n units below the North Pole, and n units above the South Pole
+abbrev pub northLess : ℕ → ℤ
+northLess n = pos (deg 90 0) -ℤ pos n
+
+abbrev pub southPlus : ℕ → ℤ
+southPlus n = pos n -ℤ pos (deg 90 0)
 
 -- a case: what is asked, and what document 01 says
 pub data Case : Type 0 where
@@ -71,9 +82,9 @@ said (relates b t s) = texts (text (bytes s))
 said (outside l u v n) = texts (refuse (refusal n 0))
 said (stops t n p) = cells (refused (refusal n p))
 
--- the table
-abbrev pub cases : List Case
-cases =
+-- document 01's cases
+abbrev pub paperCases : List Case
+paperCases =
     -- P1, P2, P3
     writes (pos 10) (pos 0) (pos 0) "N31A0000000000000000"
     ∷ writes (pos 10) (- 1) (pos 0) "N30A0000000000000000"
@@ -120,13 +131,134 @@ cases =
     ∷ stops "" 6 0
     ∷ stops "n31A" 7 0
     ∷ reads "N31A" 1 (pos 0) (pos 0) 44236800 29491200
-    -- cells of the poles, read
-    ∷ reads "N000" 1 (pos 0) (pos 648806400) 2654208000 14745600
-    ∷ reads "S000" 1 (pos 0) (- 663552000) 2654208000 14745600
-    ∷ reads "N00021" 2 (- 1327104000) (pos 648806400) 442368000 3686400
-    ∷ reads "N00030" 2 (- 442368000) (pos 648806400) 442368000 3686400
-    ∷ reads "N00002" 2 (pos 884736000) (pos 656179200) 884736000 3686400
-    ∷ reads "N000001" 3 (pos 0) (pos 659865600) 884736000 1843200
-    ∷ reads "N000000" 3 (pos 0) (pos 661708800) 2654208000 1843200
-    ∷ stops "N00000010" 7 8
     ∷ []
+
+-- the cells about the poles, their numbers worked out from document 01's text
+abbrev pub polarCases : List Case
+polarCases =
+    -- level 1: from 88° to the pole, all round
+    reads "N000" 1 (pos 0) (pos (deg 88 0)) (deg 360 0) (deg 2 0)
+    ∷ reads "S000" 1 (pos 0) (- (deg 90 0)) (deg 360 0) (deg 2 0)
+    -- level 2, the sixteen cells of the north: the cap, the rest of the disc, the belt (180°, 300° and 240° eastward are -180°, -60° and -120°)
+    ∷ reads "N00000" 2 (pos 0) (pos (deg 89 30)) (deg 360 0) (deg 0 30)
+    ∷ reads "N00001" 2 (pos 0) (pos (deg 89 0)) (deg 120 0) (deg 0 30)
+    ∷ reads "N00002" 2 (pos (deg 120 0)) (pos (deg 89 0)) (deg 120 0) (deg 0 30)
+    ∷ reads "N00003" 2 (- (deg 120 0)) (pos (deg 89 0)) (deg 120 0) (deg 0 30)
+    ∷ reads "N00010" 2 (pos 0) (pos (deg 88 0)) (deg 60 0) (deg 0 30)
+    ∷ reads "N00011" 2 (pos (deg 60 0)) (pos (deg 88 0)) (deg 60 0) (deg 0 30)
+    ∷ reads "N00012" 2 (pos 0) (pos (deg 88 30)) (deg 60 0) (deg 0 30)
+    ∷ reads "N00013" 2 (pos (deg 60 0)) (pos (deg 88 30)) (deg 60 0) (deg 0 30)
+    ∷ reads "N00020" 2 (pos (deg 120 0)) (pos (deg 88 0)) (deg 60 0) (deg 0 30)
+    ∷ reads "N00021" 2 (- (deg 180 0)) (pos (deg 88 0)) (deg 60 0) (deg 0 30)
+    ∷ reads "N00022" 2 (pos (deg 120 0)) (pos (deg 88 30)) (deg 60 0) (deg 0 30)
+    ∷ reads "N00023" 2 (- (deg 180 0)) (pos (deg 88 30)) (deg 60 0) (deg 0 30)
+    ∷ reads "N00030" 2 (- (deg 60 0)) (pos (deg 88 0)) (deg 60 0) (deg 0 30)
+    ∷ reads "N00031" 2 (- (deg 120 0)) (pos (deg 88 0)) (deg 60 0) (deg 0 30)
+    ∷ reads "N00032" 2 (- (deg 60 0)) (pos (deg 88 30)) (deg 60 0) (deg 0 30)
+    ∷ reads "N00033" 2 (- (deg 120 0)) (pos (deg 88 30)) (deg 60 0) (deg 0 30)
+    -- and of the south: a cell's south edge is the one nearer the pole
+    ∷ reads "S00000" 2 (pos 0) (- (deg 90 0)) (deg 360 0) (deg 0 30)
+    ∷ reads "S00001" 2 (pos 0) (- (deg 89 30)) (deg 120 0) (deg 0 30)
+    ∷ reads "S00002" 2 (pos (deg 120 0)) (- (deg 89 30)) (deg 120 0) (deg 0 30)
+    ∷ reads "S00003" 2 (- (deg 120 0)) (- (deg 89 30)) (deg 120 0) (deg 0 30)
+    ∷ reads "S00010" 2 (pos 0) (- (deg 88 30)) (deg 60 0) (deg 0 30)
+    ∷ reads "S00011" 2 (pos (deg 60 0)) (- (deg 88 30)) (deg 60 0) (deg 0 30)
+    ∷ reads "S00012" 2 (pos 0) (- (deg 89 0)) (deg 60 0) (deg 0 30)
+    ∷ reads "S00013" 2 (pos (deg 60 0)) (- (deg 89 0)) (deg 60 0) (deg 0 30)
+    ∷ reads "S00020" 2 (pos (deg 120 0)) (- (deg 88 30)) (deg 60 0) (deg 0 30)
+    ∷ reads "S00021" 2 (- (deg 180 0)) (- (deg 88 30)) (deg 60 0) (deg 0 30)
+    ∷ reads "S00022" 2 (pos (deg 120 0)) (- (deg 89 0)) (deg 60 0) (deg 0 30)
+    ∷ reads "S00023" 2 (- (deg 180 0)) (- (deg 89 0)) (deg 60 0) (deg 0 30)
+    ∷ reads "S00030" 2 (- (deg 60 0)) (- (deg 88 30)) (deg 60 0) (deg 0 30)
+    ∷ reads "S00031" 2 (- (deg 120 0)) (- (deg 88 30)) (deg 60 0) (deg 0 30)
+    ∷ reads "S00032" 2 (- (deg 60 0)) (- (deg 89 0)) (deg 60 0) (deg 0 30)
+    ∷ reads "S00033" 2 (- (deg 120 0)) (- (deg 89 0)) (deg 60 0) (deg 0 30)
+    -- level 3 of belt cells: rows toward the pole, columns away from the prime meridian, eastward in the east
+    ∷ reads "N000200" 3 (pos (deg 120 0)) (pos (deg 88 0)) (deg 30 0) (deg 0 15)
+    ∷ reads "N000201" 3 (pos (deg 150 0)) (pos (deg 88 0)) (deg 30 0) (deg 0 15)
+    ∷ reads "N000202" 3 (pos (deg 120 0)) (pos (deg 88 15)) (deg 30 0) (deg 0 15)
+    ∷ reads "N000203" 3 (pos (deg 150 0)) (pos (deg 88 15)) (deg 30 0) (deg 0 15)
+    ∷ reads "S000131" 3 (pos (deg 90 0)) (- (deg 88 45)) (deg 30 0) (deg 0 15)
+    -- and westward in the west
+    ∷ reads "N000210" 3 (- (deg 150 0)) (pos (deg 88 0)) (deg 30 0) (deg 0 15)
+    ∷ reads "N000211" 3 (- (deg 180 0)) (pos (deg 88 0)) (deg 30 0) (deg 0 15)
+    ∷ reads "N000212" 3 (- (deg 150 0)) (pos (deg 88 15)) (deg 30 0) (deg 0 15)
+    ∷ reads "N000213" 3 (- (deg 180 0)) (pos (deg 88 15)) (deg 30 0) (deg 0 15)
+    ∷ reads "S000312" 3 (- (deg 90 0)) (- (deg 88 30)) (deg 30 0) (deg 0 15)
+    ∷ reads "S000323" 3 (- (deg 60 0)) (- (deg 89 0)) (deg 30 0) (deg 0 15)
+    -- level 4 of a belt cell in the east and in the west: 15 by 15
+    ∷ reads "N0002013A" 4 (pos (deg 156 0)) (pos (deg 88 10)) (deg 2 0) (deg 0 1)
+    ∷ reads "N000213E7" 4 (- (deg 180 0)) (pos (deg 88 22)) (deg 2 0) (deg 0 1)
+    -- level 3 of the cap: the new cap, and the rest in three
+    ∷ reads "N000000" 3 (pos 0) (pos (deg 89 45)) (deg 360 0) (deg 0 15)
+    ∷ reads "N000001" 3 (pos 0) (pos (deg 89 30)) (deg 120 0) (deg 0 15)
+    ∷ reads "N000002" 3 (pos (deg 120 0)) (pos (deg 89 30)) (deg 120 0) (deg 0 15)
+    ∷ reads "N000003" 3 (- (deg 120 0)) (pos (deg 89 30)) (deg 120 0) (deg 0 15)
+    ∷ reads "S000000" 3 (pos 0) (- (deg 90 0)) (deg 360 0) (deg 0 15)
+    ∷ reads "S000001" 3 (pos 0) (- (deg 89 45)) (deg 120 0) (deg 0 15)
+    ∷ reads "S000002" 3 (pos (deg 120 0)) (- (deg 89 45)) (deg 120 0) (deg 0 15)
+    ∷ reads "S000003" 3 (- (deg 120 0)) (- (deg 89 45)) (deg 120 0) (deg 0 15)
+    -- level 3 of the disc's other cells: columns eastward, rows from the pole outward; and level 4 of one
+    ∷ reads "N000010" 3 (pos 0) (pos (deg 89 15)) (deg 60 0) (deg 0 15)
+    ∷ reads "N000011" 3 (pos (deg 60 0)) (pos (deg 89 15)) (deg 60 0) (deg 0 15)
+    ∷ reads "N000012" 3 (pos 0) (pos (deg 89 0)) (deg 60 0) (deg 0 15)
+    ∷ reads "N000013" 3 (pos (deg 60 0)) (pos (deg 89 0)) (deg 60 0) (deg 0 15)
+    ∷ reads "N000021" 3 (- (deg 180 0)) (pos (deg 89 15)) (deg 60 0) (deg 0 15)
+    ∷ reads "N000022" 3 (pos (deg 120 0)) (pos (deg 89 0)) (deg 60 0) (deg 0 15)
+    ∷ reads "N000030" 3 (- (deg 120 0)) (pos (deg 89 15)) (deg 60 0) (deg 0 15)
+    ∷ reads "N000033" 3 (- (deg 60 0)) (pos (deg 89 0)) (deg 60 0) (deg 0 15)
+    ∷ reads "S000013" 3 (pos (deg 60 0)) (- (deg 89 15)) (deg 60 0) (deg 0 15)
+    ∷ reads "S000020" 3 (pos (deg 120 0)) (- (deg 89 30)) (deg 60 0) (deg 0 15)
+    ∷ reads "N0000112E" 4 (pos (deg 68 0)) (pos (deg 89 15)) (deg 4 0) (deg 0 1)
+    -- level 4 of the cap: 15 rows of 1', row 0 the new cap, the others of 15 columns; row 0 with another column is refused at the row character
+    ∷ reads "N00000000" 4 (pos 0) (pos (deg 89 59)) (deg 360 0) (deg 0 1)
+    ∷ reads "N00000035" 4 (pos (deg 72 0)) (pos (deg 89 54)) (deg 24 0) (deg 0 1)
+    ∷ reads "S00000035" 4 (pos (deg 72 0)) (- (deg 89 55)) (deg 24 0) (deg 0 1)
+    ∷ stops "N00000010" 7 8
+    -- level 5: 15 rows of 8,192 units
+    ∷ reads "N0000000000" 5 (pos 0) (northLess 8192) (deg 360 0) 8192
+    ∷ reads "N00000000E1" 5 (- (deg 24 0)) (northLess (2 * 8192)) (deg 24 0) 8192
+    ∷ stops "N0000000010" 7 10
+    -- level 6: the new cap is 0, the outer row's two halves are 2 and 3, and the digit 1 never occurs
+    ∷ reads "N00000000000" 6 (pos 0) (northLess 4096) (deg 360 0) 4096
+    ∷ reads "N00000000002" 6 (pos 0) (northLess (2 * 4096)) (deg 180 0) 4096
+    ∷ reads "N00000000003" 6 (- (deg 180 0)) (northLess (2 * 4096)) (deg 180 0) 4096
+    ∷ reads "S00000000003" 6 (- (deg 180 0)) (southPlus 4096) (deg 180 0) 4096
+    ∷ stops "N00000000001" 7 11
+    -- levels 7 to 10: 8 rows, row 0 the new cap, the others of 8 columns of 45°; row 0 with another column is refused at the row character
+    ∷ reads "N0000000000000" 7 (pos 0) (northLess 512) (deg 360 0) 512
+    ∷ reads "N0000000000053" 7 (- (deg 135 0)) (northLess (4 * 512)) (deg 45 0) 512
+    ∷ stops "N0000000000010" 7 13
+    ∷ reads "N000000000000000" 8 (pos 0) (northLess 64) (deg 360 0) 64
+    ∷ reads "N000000000000071" 8 (- (deg 45 0)) (northLess (2 * 64)) (deg 45 0) 64
+    ∷ stops "N000000000000020" 7 15
+    ∷ reads "N00000000000000000" 9 (pos 0) (northLess 8) (deg 360 0) 8
+    ∷ reads "N00000000000000037" 9 (pos (deg 135 0)) (northLess (8 * 8)) (deg 45 0) 8
+    ∷ stops "N00000000000000070" 7 17
+    ∷ reads "N0000000000000000000" 10 (pos 0) (northLess 1) (deg 360 0) 1
+    ∷ reads "N0000000000000000046" 10 (- (deg 180 0)) (northLess 7) (deg 45 0) 1
+    ∷ stops "N0000000000000000010" 7 19
+    ∷ reads "S0000000000026" 7 (pos (deg 90 0)) (southPlus (6 * 512)) (deg 45 0) 512
+    ∷ reads "S0000000000000000000" 10 (pos 0) (- (deg 90 0)) (deg 360 0) 1
+    ∷ reads "S0000000000000000017" 10 (pos (deg 45 0)) (southPlus 7) (deg 45 0) 1
+    -- written, one of each kind: the belt in the east and in the west, the disc, and the caps' rings level by level
+    ∷ writes (pos 3) (pos (deg 150 0)) (pos (deg 88 15)) "N000203"
+    ∷ writes (pos 3) (- (deg 150 0)) (pos (deg 88 0)) "N000210"
+    ∷ writes (pos 3) (- (deg 150 0 + 1)) (pos (deg 88 0)) "N000211"
+    ∷ writes (pos 3) (pos (deg 90 0)) (- (deg 88 45)) "S000131"
+    ∷ writes (pos 3) (- 1) (- (deg 89 15)) "S000033"
+    ∷ writes (pos 3) (- 1) (pos (deg 89 30)) "N000003"
+    ∷ writes (pos 4) (pos (deg 72 0)) (pos (deg 89 54)) "N00000035"
+    ∷ writes (pos 5) (- 1) (northLess (2 * 8192)) "N00000000E1"
+    ∷ writes (pos 6) (- 1) (northLess (2 * 4096)) "N00000000003"
+    ∷ writes (pos 6) (- 1) (northLess 4096) "N00000000000"
+    ∷ writes (pos 7) (- (deg 135 0)) (northLess (4 * 512)) "N0000000000053"
+    ∷ writes (pos 8) (- (deg 45 0)) (northLess (2 * 64)) "N000000000000071"
+    ∷ writes (pos 9) (pos (deg 135 0)) (northLess (8 * 8)) "N00000000000000037"
+    ∷ writes (pos 10) (- (deg 180 0)) (northLess 7) "N0000000000000000046"
+    ∷ writes (pos 10) (pos (deg 45 0)) (southPlus 7) "S0000000000000000017"
+    ∷ []
+
+-- the table
+abbrev pub cases : List Case
+cases = paperCases ++ polarCases
