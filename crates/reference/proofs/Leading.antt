@@ -17,7 +17,8 @@ use Rattle.grid.specs.Laying.{Text, text, unless}
 use Rattle.grid.specs.Plane.{longitudeAt, codeOf, cellOf}
 use Rattle.grid.proofs.Cut.{clash, and-true}
 use Rattle.reference.specs.Offsets.{offsetDigit, movedTo, moved}
-use Rattle.reference.specs.Text.{fit, eastSpan, northSpan, referenceCode, spelled, spanned, related, referenceText, targetSquare, targetOf, Aim, aimOf, ledTo, targetText, southAfter, MovedBy, OffsetTo, Formed, Leads}
+use Rattle.reference.specs.Text.{fit, eastSpan, northSpan, referenceCode, spelled, spanned, related, referenceText, targetSquare, targetOf, Aim, aimOf, ledTo, targetText}
+use Rattle.reference.specs.Meaning.{southAfter, MovedBy, OffsetTo, Formed, Leads}
 use Rattle.reference.proofs.Numbers.{longitudeAt-around, around-moved, digit-fits, moved-sum, span-of-moved, span-leads}
 use Rattle.reference.proofs.Corners.{Fit, fit-of, to-fit, corner, corner-code, Target, target}
 use Rattle.reference.proofs.Spelling.{formed, formed-start, read-formed, formed-of}

@@ -23,7 +23,8 @@ use Rattle.grid.proofs.Places.{agree-at}
 use Rattle.grid.proofs.Refusing.{Answered, as-cell, as-six, as-seven}
 use Rattle.grid.proofs.Theorems.{plane-places}
 use Rattle.reference.specs.Offsets.{offsetDigit}
-use Rattle.reference.specs.Text.{referenceCode, aimed, aimOf, referenceLengths, Formed}
+use Rattle.reference.specs.Text.{referenceCode, aimed, aimOf, referenceLengths}
+use Rattle.reference.specs.Meaning.{Formed}
 use Rattle.reference.proofs.Numbers.{digit-fits}
 use Rattle.reference.proofs.Lines.{reference-length}
 use Rattle.reference.proofs.Spelling.{behind, getD-behind, base-length, read-behind, three-behind, formed, formed-start, parts, read-formed, formed-of}

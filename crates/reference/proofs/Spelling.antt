@@ -20,7 +20,8 @@ use Rattle.grid.specs.Plane.{cellOf}
 use Rattle.grid.proofs.Cut.{clash}
 use Rattle.grid.proofs.Characters.{digit-char, char-digit}
 use Rattle.reference.specs.Offsets.{offsetDigit}
-use Rattle.reference.specs.Text.{referenceCode, Aim, unlessAt, aimed, aimOf, ledTo, targetText, Formed}
+use Rattle.reference.specs.Text.{referenceCode, Aim, unlessAt, aimed, aimOf, ledTo, targetText}
+use Rattle.reference.specs.Meaning.{Formed}
 use Rattle.reference.proofs.Numbers.{digit-fits}
 
 -- ---- a code and three characters behind it

@@ -22,8 +22,8 @@ use Rattle.grid.proofs.Cut.{clash, and-true}
 use Rattle.grid.proofs.Refusing.{places-of}
 use Rattle.grid.proofs.Theorems.{plane-places}
 use Rattle.reference.specs.Offsets.{offsetDigit}
-use Rattle.reference.specs.Text.{fit, eastSpan, northSpan, referenceCode, ofSecond, spelled, spanned, referenceText, targetSquare, targetOf, Aim, aimOf, referenceLengths, ledTo, targetText, southAfter, OffsetTo, Formed, Leads}
-use Rattle.reference.specs.Reasons.{CodesOf, WhyWritten, base-six, base-seven, target-six, target-seven, eight, nine, ten, an-offset, WhyRead, six, seven, not-fit, twelve, target}
+use Rattle.reference.specs.Text.{fit, eastSpan, northSpan, referenceCode, ofSecond, spelled, spanned, referenceText, targetSquare, targetOf, Aim, aimOf, referenceLengths, ledTo, targetText}
+use Rattle.reference.specs.Meaning.{southAfter, OffsetTo, Formed, Leads, CodesOf, WhyWritten, base-six, base-seven, target-six, target-seven, eight, nine, ten, an-offset, WhyRead, six, seven, not-fit, twelve, target}
 use Rattle.reference.proofs.Corners.{fit-of}
 use Rattle.reference.proofs.Spelling.{formed, formed-start, parts, read-formed, formed-of}
 use Rattle.reference.proofs.Places.{less-three, answered, some-code}

@@ -1,4 +1,4 @@
 pub mod Offsets
 pub mod Text
-pub mod Reasons
+pub mod Meaning
 pub mod inner

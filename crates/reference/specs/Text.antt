@@ -1,22 +1,19 @@
 -- Reference codes (document 01, source 000 clause 7): a plane code, a hyphen, M and N. What the writer and the reader are to write.
 -- Assumes nothing.
 use mathlib.Core.Bool.{Bool, true, false, _&&_}
-use mathlib.Core.Path.{_≡_}
 use mathlib.Core.List.{List, [], _∷_, _++_, map}
 use Prim.Native.Nat.{ℕ, _+_, _-_}
 use lib.Dec.{ltb, leb, eqb}
-use lib.IntN.{ℤ, pos, _+ℤ_, _*ℤ_}
 use lib.ListN.{length, take, getD}
 use Rattle.grid.specs.declared.Cell.{Cell}
 use Rattle.grid.specs.declared.Refusal.{Refusal}
 use Rattle.grid.specs.Units.{POLAR, index, Square}
 use Rattle.grid.specs.Characters.{charOf, digitOf}
 use Rattle.grid.specs.Answers.{Answer, accepted, refused, wrongCharacter}
-use Rattle.grid.specs.Cells.{around}
 use Rattle.grid.specs.Laying.{Text, refuse, text, unless}
 use Rattle.grid.specs.Splits.{planeLengths}
 use Rattle.grid.specs.Plane.{codeOf, cellOf}
-use Rattle.reference.specs.Offsets.{offsetDigit, offset, moved, spanOf}
+use Rattle.reference.specs.Offsets.{offsetDigit, moved, spanOf}
 
 -- the byte of a hyphen
 abbrev pub HYPHEN : ℕ
@@ -114,46 +111,3 @@ ledTo (accepted a) = targetOf (a .from) (a .m) (a .n)
 -- what the reader is to write: 6, 7, 8, 12 in that order, else the target's plane code
 unfoldable pub targetText : List ℕ → Text
 targetText w = ledTo (aimOf w)
-
--- ---- what a reference code and its offset mean
-
--- the south edge of b, n heights northward
-abbrev pub southAfter : Cell → ℕ → ℤ
-southAfter b n = b .south +ℤ offset n *ℤ pos (b .height)
-
--- d is b moved by the digits m and n: so many widths eastward, longitudes a full turn apart being the same, and so many heights northward
-pub record MovedBy (b d : Cell) (m n : ℕ) : Type 0 where
-  pub level : d .level ≡ b .level
-  pub width : d .width ≡ b .width
-  pub height : d .height ≡ b .height
-  pub west : around (d .west) ≡ around (b .west +ℤ offset m *ℤ pos (b .width))
-  pub south : d .south ≡ southAfter b n
-
--- an offset that leads from b to t: M and N, each 0 to 7 or A to G, by which t is b moved
-pub record OffsetTo (b t : Cell) : Type 0 where
-  pub m : ℕ
-  pub n : ℕ
-  pub east : offsetDigit m ≡ true
-  pub north : offsetDigit n ≡ true
-  pub moves : MovedBy b t m n
-
--- w is a reference code, wherever it leads: an accepted plane code, which is its base's, a hyphen, and M and N, each 0 to 7 or A to G
-pub record Formed (w : List ℕ) : Type 0 where
-  pub base : List ℕ
-  pub from : Cell
-  pub m : ℕ
-  pub n : ℕ
-  pub form : referenceCode base m n ≡ w
-  pub read-base : cellOf base ≡ accepted from
-  pub east : offsetDigit m ≡ true
-  pub north : offsetDigit n ≡ true
-
--- the reference code w leads to the plane code goal, which is the code of the base's cell moved by M and N;
--- both are ordinary and of level 5 or finer
-pub record Leads (w goal : List ℕ) : Type 0 where
-  pub formed : Formed w
-  pub to : Cell
-  pub read-goal : cellOf goal ≡ accepted to
-  pub fit-base : fit (formed .from) ≡ true
-  pub fit-goal : fit to ≡ true
-  pub moves : MovedBy (formed .from) to (formed .m) (formed .n)

@@ -1,18 +1,67 @@
--- Which answer is given when: the writer's and the reader's answers, each with its reason, in document 01's order.
+-- What a reference code and its offset mean, and which answer is given when: the writer's and the reader's, each with its reason,
+-- in document 01's order.
 -- Assumes nothing.
 use mathlib.Core.Path.{_≡_}
 use mathlib.Core.Bool.{true, false, _&&_}
 use mathlib.Core.List.{List}
 use Prim.Native.Nat.{ℕ, _-_, _≤_}
+use lib.IntN.{ℤ, pos, _+ℤ_, _*ℤ_}
 use lib.ListN.{length}
 use Rattle.grid.specs.declared.Cell.{Cell}
 use Rattle.grid.specs.Units.{POLAR, index}
 use Rattle.grid.specs.Answers.{accepted, refusal, wrongLength, wrongCharacter}
+use Rattle.grid.specs.Cells.{around}
 use Rattle.grid.specs.Places.{among, Accepted, FirstBad}
 use Rattle.grid.specs.Splits.{planeLengths}
 use Rattle.grid.specs.Laying.{Text, refuse, text}
 use Rattle.grid.specs.Plane.{cellOf}
-use Rattle.reference.specs.Text.{fit, referenceCode, ofSecond, aimOf, southAfter, OffsetTo, Formed, Leads}
+use Rattle.reference.specs.Offsets.{offsetDigit, offset}
+use Rattle.reference.specs.Text.{fit, referenceCode, ofSecond, aimOf}
+
+-- ---- where an offset leads
+
+-- the south edge of b, n heights northward
+abbrev pub southAfter : Cell → ℕ → ℤ
+southAfter b n = b .south +ℤ offset n *ℤ pos (b .height)
+
+-- d is b moved by the digits m and n: so many widths eastward, longitudes a full turn apart being the same, and so many heights northward
+pub record MovedBy (b d : Cell) (m n : ℕ) : Type 0 where
+  pub level : d .level ≡ b .level
+  pub width : d .width ≡ b .width
+  pub height : d .height ≡ b .height
+  pub west : around (d .west) ≡ around (b .west +ℤ offset m *ℤ pos (b .width))
+  pub south : d .south ≡ southAfter b n
+
+-- an offset that leads from b to t: M and N, each 0 to 7 or A to G, by which t is b moved
+pub record OffsetTo (b t : Cell) : Type 0 where
+  pub m : ℕ
+  pub n : ℕ
+  pub east : offsetDigit m ≡ true
+  pub north : offsetDigit n ≡ true
+  pub moves : MovedBy b t m n
+
+-- w is a reference code, wherever it leads: an accepted plane code, which is its base's, a hyphen, and M and N, each 0 to 7 or A to G
+pub record Formed (w : List ℕ) : Type 0 where
+  pub base : List ℕ
+  pub from : Cell
+  pub m : ℕ
+  pub n : ℕ
+  pub form : referenceCode base m n ≡ w
+  pub read-base : cellOf base ≡ accepted from
+  pub east : offsetDigit m ≡ true
+  pub north : offsetDigit n ≡ true
+
+-- the reference code w leads to the plane code goal, which is the code of the base's cell moved by M and N;
+-- both are ordinary and of level 5 or finer
+pub record Leads (w goal : List ℕ) : Type 0 where
+  pub formed : Formed w
+  pub to : Cell
+  pub read-goal : cellOf goal ≡ accepted to
+  pub fit-base : fit (formed .from) ≡ true
+  pub fit-goal : fit to ≡ true
+  pub moves : MovedBy (formed .from) to (formed .m) (formed .n)
+
+-- ---- which answer is given when
 
 -- base and goal are the codes of the cells b and t
 pub record CodesOf (base goal : List ℕ) (b t : Cell) : Type 0 where
