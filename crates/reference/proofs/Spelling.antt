@@ -113,9 +113,9 @@ aimed-of : (k h m n : ℕ) (x : Answer Cell) (a : Aim) → aimed k h m n x ≡ a
 unfolding aimed
 aimed-of k h m n (refused q) a e = clash (cc)
 aimed-of k h m n (accepted b) a e =
-    let p = unless-at-ok (eqb h 45) k _ a e in
-    let q = unless-at-ok (offsetDigit (digitOf m)) (k + 1) _ a (p .1) in
-    let r = unless-at-ok (offsetDigit (digitOf n)) (k + 2) _ a (q .1) in
+    let p = unless-at-ok (eqb h 45) _ _ a e in
+    let q = unless-at-ok (offsetDigit (digitOf m)) _ _ a (p .1) in
+    let r = unless-at-ok (offsetDigit (digitOf n)) _ _ a (q .1) in
     subst (Aimed h m n (accepted b)) (accepted-inj (r .1))
     (record { read-base = refl; hyphen = eqb-true h 45 (p .0); m-is = refl; n-is = refl; east = q .0; north = r .0 })
 
