@@ -5,7 +5,8 @@ use native.Mathlib.Omega.{arith}
 use mir.Facts.{toZ-ofZ}
 use Rattle.grid.specs.Units.{index}
 use Rattle.grid.specs.Laying as laying
-use Rattle.plane.specs.Text.{levelNumber, Placed}
+use Rattle.plane.specs.Text.{levelNumber}
+use Rattle.plane.specs.inner.Asking.{Placed}
 use Rattle.plane.proofs.Asking.{asked-level, asked-longitude, asked-latitude, asked-at, level-most}
 use borrow.Author.Needs.{needs}
 use Rattle.plane.proofs.ask.Statement.{statement}
@@ -23,6 +24,9 @@ returns c = (ap laying.refuse (c .refuse .ensures) ∙ asked-level _ _ _ (c .bef
 outward-requires : tie.Need-outward-requires
 outward-requires c κs = search needs
 
+cast-if2 : tie.Need-cast-if2
+cast-if2 c = search needs
+
 refuse-requires-2 : tie.Need-refuse-requires-2
 refuse-requires-2 c κs = search needs
 
@@ -31,6 +35,9 @@ returns-2 c = (ap laying.refuse (c .refuse2 .ensures) ∙ asked-longitude _ _ _ 
 
 outward-requires-2 : tie.Need-outward-requires-2
 outward-requires-2 c κs = search needs
+
+cast-if3 : tie.Need-cast-if3
+cast-if3 c = search needs
 
 refuse-requires-3 : tie.Need-refuse-requires-3
 refuse-requires-3 c κs = search needs
@@ -58,9 +65,11 @@ ask-spec =
     refuse-requires
     returns
     outward-requires
+    cast-if2
     refuse-requires-2
     returns-2
     outward-requires-2
+    cast-if3
     refuse-requires-3
     returns-3
     placed-requires
