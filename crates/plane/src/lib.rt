@@ -181,20 +181,25 @@ fn level_in(level: i64) -> u32
     if upper(level) { n as u32 } else { 0 }
 }
 
+// The ranges as they are held against an i64's outward index.
+const HALF: u64 = grid::HALF as u64;
+
+const QUARTER: u64 = grid::QUARTER as u64;
+
 // Refusals 1, 2 and 3, else the level and the place.
 pub fn ask(level: i64, longitude: i64, latitude: i64) -> Asked
     ensures { λ r. ⌜ (askedText r ≡ planeText level longitude latitude) × Fitting r × Same level longitude latitude r ⌝ }
 {
     let l = level_in(level);
+    let x = outward(longitude);
+    let y = outward(latitude);
     if l == 0 {
         return Asked::Refused(refuse(1));
     }
-    let x = outward(longitude);
-    if grid::HALF as u64 <= x {
+    if HALF <= x {
         return Asked::Refused(refuse(2));
     }
-    let y = outward(latitude);
-    if grid::QUARTER as u64 <= y {
+    if QUARTER <= y {
         return Asked::Refused(refuse(3));
     }
     Asked::At(l, placed(longitude, latitude, x, y))

@@ -9,7 +9,7 @@ use Rattle.grid.specs.Plane.{Node, pole, sheet}
 use Rattle.plane.specs.declared.First.{First}
 use Rattle.plane.specs.declared.First.the-variants.{Sheet, Pole, Bad}
 
--- the node of level 1, or the place of the first bad character
+-- the node of level 1, or the place of the first bad character: `answer` (grid, specs/Codes.antt) makes it refusal 7
 abbrev pub firstRead : First → Read Node
 firstRead (Sheet n z r) = ok (sheet n z r)
 firstRead (Pole n) = ok (pole n)
