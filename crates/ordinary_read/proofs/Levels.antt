@@ -46,15 +46,9 @@ divides k c h p =
       single = λ e. omega (arith, low, high, e);
     }
 
--- levels 7 to 10 need no letters
-pub decimal : (j : ℕ) {s : Split} → s ≡ splitAt (6 + j) → j < 4 → Decimal s
-decimal j e h =
-    subst⁻¹ Decimal e
-    (record {
-      two = eqb-true _ _ (below (λ j. eqb (splitAt (6 + j) .characters) 2) 4 j refl h);
-      few-columns = leb-true _ _ (below (λ j. leb (splitAt (6 + j) .columns) 10) 4 j refl h);
-      few-rows = leb-true _ _ (below (λ j. leb (splitAt (6 + j) .rows) 10) 4 j refl h);
-    })
+-- a level of two characters needs no letters where it has ten columns and ten rows at most
+pub decimal : (k : ℕ) {s : Split} → s ≡ splitAt k → splitAt k .characters ≡ 2 → leb (splitAt k .columns) 10 ≡ true → leb (splitAt k .rows) 10 ≡ true → Decimal s
+decimal k e t c r = subst⁻¹ Decimal e (record { two = t; few-columns = leb-true _ _ c; few-rows = leb-true _ _ r })
 
 -- what is read of the code w from the cell m on, through the level k + 1
 abbrev readTo : List ℕ → Node → ℕ → Read Node

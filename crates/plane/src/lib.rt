@@ -1,28 +1,28 @@
 // Plane codes of levels 1 to 10 (document 01): from position to code, and from code to cell.
 // The ordinary cells and the polar ones go their own roads below this crate; here the refusals are decided and the line is lent on.
 
+ghost use mathlib.Core.List.{map};
 ghost use mathlib.Core.Path.{_≡_};
-ghost use Prim.Native.Nat.{_+_, _-_, _*_, _≤_, _<_};
+ghost use Prim.Native.Nat.{_-_, _≤_, _<_};
 ghost use lib.ListN.{length, take};
-ghost use Rattle.grid.specs.Splits.{first, splitAt};
+ghost use lib.Seq.{sets};
 ghost use Rattle.grid.specs.Units.{HALF, QUARTER, index};
-ghost use Rattle.grid.specs.inner.Roads.{squareOf};
+ghost use Rattle.grid.specs.Splits.{first, splitAt};
 ghost use Rattle.grid.specs.Characters.{digitOf};
 ghost use Rattle.grid.specs.Answers.{refusal, planeRead};
 ghost use Rattle.grid.specs.Laying.{text, laid, written};
 ghost use Rattle.grid.specs.Plane.{codeOf, cellOf, globeChild};
+ghost use Rattle.grid.specs.inner.Roads.{squareOf};
 ghost use Rattle.plane.specs.Text.{planeText, levelNumber};
-ghost use Rattle.plane.specs.inner.Lengths.{levelOf};
 ghost use Rattle.plane.specs.inner.Asking.{askedText, Fitting, Same, Placed, PlaneWritable};
+ghost use Rattle.plane.specs.inner.Lengths.{levelOf};
 ghost use Rattle.plane.specs.inner.Start.{firstRead, Ranged, letteredRead, zonedRead};
-ghost use mathlib.Core.List.{map};
 use grid::Place;
 use grid::PlaneRead;
 use grid::Refusal;
 use grid::Written;
 pub use grid::outward;
 pub use grid::upper;
-ghost use lib.Seq.{sets};
 
 // The length of the codes of a level.
 pub fn length_of(level: u32) -> usize
