@@ -22,7 +22,7 @@ use Rattle.grid.proofs.Laws.{shift-shift}
 use Rattle.grid.proofs.Lengths.{adds}
 use Rattle.ordinary_read.proofs.Steps.{onward-bad}
 use Rattle.ordinary_read.specs.declared.Cursor.{Cursor}
-use Rattle.ordinary_read.specs.Reading.{readOf, onward, answerOf, Inside, Stands, Divides, Decimal, Ready, Reached, Started, Onward}
+use Rattle.ordinary_read.specs.inner.Reading.{ordinaryRead, onward, ordinaryAnswer, Inside, LevelCell, DividedBy, Decimal, LevelNext, LevelRead, AtSheet, Onward}
 
 -- ---- from one level to the next
 
@@ -31,7 +31,7 @@ each : (f : Split → Split → Bool) → allBelow (λ k. f (splitAt k) (splitAt
 each f e k h = below (λ k. f (splitAt k) (splitAt (suc k))) 9 k e h
 
 -- the next level divides a cell of this one
-divides : (k : ℕ) (c : Cursor) → k < 9 → Stands (splitAt k) c → Divides (splitAt (suc k)) c
+divides : (k : ℕ) (c : Cursor) → k < 9 → LevelCell (splitAt k) c → DividedBy (splitAt (suc k)) c
 divides k c h p =
     let low : 2 ≤ splitAt (suc k) .columns = leb-true _ _ (each (λ t s. leb 2 (s .columns)) refl k h) in
     let high : splitAt (suc k) .columns ≤ 2 + 100 * (splitAt (suc k) .characters - 1) = leb-true _ _ (each (λ t s. leb (s .columns) (2 + 100 * (s .characters - 1))) refl k h) in
@@ -46,15 +46,9 @@ divides k c h p =
       single = λ e. omega (arith, low, high, e);
     }
 
--- levels 7 to 10 need no letters
-pub decimal : (j : ℕ) {s : Split} → s ≡ splitAt (6 + j) → j < 4 → Decimal s
-decimal j e h =
-    subst⁻¹ Decimal e
-    (record {
-      two = eqb-true _ _ (below (λ j. eqb (splitAt (6 + j) .characters) 2) 4 j refl h);
-      few-columns = leb-true _ _ (below (λ j. leb (splitAt (6 + j) .columns) 10) 4 j refl h);
-      few-rows = leb-true _ _ (below (λ j. leb (splitAt (6 + j) .rows) 10) 4 j refl h);
-    })
+-- a level of two characters needs no letters where it has ten columns and ten rows at most
+pub decimal : (k : ℕ) {s : Split} → s ≡ splitAt k → splitAt k .characters ≡ 2 → leb (splitAt k .columns) 10 ≡ true → leb (splitAt k .rows) 10 ≡ true → Decimal s
+decimal k e t c r = subst⁻¹ Decimal e (record { two = t; few-columns = leb-true _ _ c; few-rows = leb-true _ _ r })
 
 -- what is read of the code w from the cell m on, through the level k + 1
 abbrev readTo : List ℕ → Node → ℕ → Read Node
@@ -63,23 +57,23 @@ readTo w m (suc k) = onward (splitAt (suc k)) w (readTo w m k)
 
 -- the cursor has come through the level k + 1
 pub record At (w : List ℕ) (m : Node) (k : ℕ) (c : Cursor) : Type 0 where
-  pub read : readOf c ≡ readTo w m k
-  pub reached : Reached (splitAt k) (length w) c
+  pub read : ordinaryRead c ≡ readTo w m k
+  pub reached : LevelRead (splitAt k) (length w) c
 
-pub begins : (w : List ℕ) {n : Bool} {z r : ℕ} {c : Cursor} → Started n z r c → At w (sheet n z r) 0 c
+pub begins : (w : List ℕ) {n : Bool} {z r : ℕ} {c : Cursor} → AtSheet n z r c → At w (sheet n z r) 0 c
 begins w s = record { read = s .read; reached = λ g. (s .inside, λ h. s .stands) }
 
 module _ {w : List ℕ} {m : Node} (k : ℕ) {c : Cursor} {s : Split} (a : At w m k c) (e : s ≡ splitAt (suc k)) where
-  pub ready : k < 9 → Ready s (length w) c
+  pub ready : k < 9 → LevelNext s (length w) c
   ready h g =
-      subst⁻¹ (λ (x : Split). Inside c × (x .length ≤ length w → Divides x c)) e
+      subst⁻¹ (λ (x : Split). Inside c × (x .length ≤ length w → DividedBy x c)) e
       (a .reached g .0, λ l. divides k c h (a .reached g .1 (omega (arith, adds k h))))
 
   pub through : {r : Cursor} → Onward s w c r → At w m (suc k) r
   through {r} o =
       record {
         read = o .read ∙ ap (onward s w) (a .read) ∙ ap (λ (x : Split). onward x w (readTo w m k)) e;
-        reached = subst (λ (x : Split). Reached x (length w) r) e (o .reached);
+        reached = subst (λ (x : Split). LevelRead x (length w) r) e (o .reached);
       }
 
 -- ---- the levels together
@@ -124,8 +118,8 @@ module _ (w : List ℕ) where
 
 -- the nine levels, of which a code has as many as its length tells: all that `rest` answers
 pub together : (w : List ℕ) (m : Node) (level : ℕ) {c : Cursor} → 1 ≤ level → level ≤ 10 → length w ≡ splitAt (level - 1) .length → At w m 9 c
-    → answerOf level (readOf c) ≡ laterRead level m w
-unfolding answerOf planeCodes laterRead
+    → ordinaryAnswer level (ordinaryRead c) ≡ laterRead level m w
+unfolding ordinaryAnswer planeCodes laterRead
 together w m level a b e p =
     let j : suc (level - 1) ≡ level = omega arith in
     ap (answer planeCodes level)

@@ -10,6 +10,7 @@ use lib.IntN.{ℤ}
 use lib.ListN.{length, getD}
 use borrow.Author.Tests.{lt-ltb, le-ltb, le-leb, leb-true, leb-false}
 use Rattle.grid.specs.declared.Split.{Split}
+use Rattle.grid.specs.Units.{HALF, POLAR}
 use Rattle.grid.specs.Characters.{digitOf}
 use Rattle.grid.specs.inner.Roads.{decimalDigit}
 use Rattle.grid.specs.Tree.{Read, ok, bad, guard, shift}
@@ -20,7 +21,7 @@ use Rattle.grid.proofs.Cut.{clash, cut-end, and-true}
 use Rattle.grid.proofs.Characters.{decimal-guard}
 use Rattle.grid.proofs.Lists.{map-one, map-two}
 use Rattle.ordinary_read.specs.declared.Cursor.{Cursor}
-use Rattle.ordinary_read.specs.Reading.{boxOf, readOf, digitsIn, onward, answerOf, Inside, Divides, Decimal, goesOn, Ready, Started, Child, Onward}
+use Rattle.ordinary_read.specs.inner.Reading.{ordinaryBox, ordinaryRead, levelDigits, onward, ordinaryAnswer, Inside, DividedBy, Decimal, goesOn, LevelNext, AtSheet, Child, Onward}
 
 -- ---- the cell of level 1
 
@@ -38,7 +39,7 @@ module _ (n : Bool) (z column row : ℕ) where
         height = s .height;
       }
 
-  started : row < 22 → column < 30 → readOf (begun first) ≡ ok (sheet n z row) → Started n z row (begun first)
+  started : row < first .rows → column < 30 → ordinaryRead (begun first) ≡ ok (sheet n z row) → AtSheet n z row (begun first)
   started k h e =
       record {
         read = e;
@@ -46,34 +47,34 @@ module _ (n : Bool) (z column row : ℕ) where
         stands = record { wide = refl; high = refl; at = refl };
       }
 
-  pub started-east : row < 22 → 30 < z → z ≤ 60 → column ≡ z - 31 → Started n z row (begun first)
+  pub started-east : row < first .rows → 30 < z → z ≤ first .columns → column ≡ z - 31 → AtSheet n z row (begun first)
   started-east k h l e = started k (omega arith) (rw (lt-ltb 30 z h, e) refl)
 
-  pub started-west : row < 22 → 1 ≤ z → z ≤ 30 → column ≡ 30 - z → Started n z row (begun first)
+  pub started-west : row < first .rows → 1 ≤ z → z ≤ 30 → column ≡ 30 - z → AtSheet n z row (begun first)
   started-west k l h e = started k (omega arith) (rw (le-ltb 30 z h, e) refl)
 
 -- ---- the child in a column and a row
 
 -- a cursor that was stopped is not good
-not-good : {A : Type 0} (c : Cursor) (p : ℕ) → readOf c ≡ bad p → c .good ≡ true → A
+not-good : {A : Type 0} (c : Cursor) (p : ℕ) → ordinaryRead c ≡ bad p → c .good ≡ true → A
 not-good c p e g =
-    let z : cond true (ok (cell (ordinary (c .north) (c .east)) (boxOf c))) (bad (c .place)) ≡ bad p = rw g at e in
+    let z : cond true (ok (cell (ordinary (c .north) (c .east)) (ordinaryBox c))) (bad (c .place)) ≡ bad p = rw g at e in
     clash (cc)
 
 -- the child lies in its quarter
 pub record Lies (s : Split) (column row : ℕ) (c : Cursor) : Type 0 where
-  pub across : c .x + (column * s .width + s .width) ≤ 1327104000
-  pub along : c .y + (row * s .height + s .height) ≤ 648806400
+  pub across : c .x + (column * s .width + s .width) ≤ HALF
+  pub along : c .y + (row * s .height + s .height) ≤ POLAR
 
 module _ (s : Split) (column row : ℕ) (c : Cursor) where
-  pub no-column : (r : Cursor) → s .columns ≤ column → readOf r ≡ bad (c .place) → Child s column row c r
+  pub no-column : (r : Cursor) → s .columns ≤ column → ordinaryRead r ≡ bad (c .place) → Child s column row c r
   no-column r h e = record { read = rw (le-ltb column (s .columns) h) e; reached = λ g. not-good r _ e g }
 
   module _ (h : column < s .columns) where
-    pub no-row : (r : Cursor) → s .rows ≤ row → readOf r ≡ bad (s .length - 1) → Child s column row c r
+    pub no-row : (r : Cursor) → s .rows ≤ row → ordinaryRead r ≡ bad (s .length - 1) → Child s column row c r
     no-row r k e = record { read = rw (lt-ltb column (s .columns) h, le-ltb row (s .rows) k) e; reached = λ g. not-good r _ e g }
 
-    module _ (k : row < s .rows) (i : Inside c) (d : Divides s c) where
+    module _ (k : row < s .rows) (i : Inside c) (d : DividedBy s c) where
       pub lies : Lies s column row c
       lies =
           record {
@@ -115,7 +116,7 @@ onward-bad s w p = go (leb (s .length) (length w))
     go false = refl
 
 -- the cursor stays where it was
-pub onward-held : (s : Split) (w : List ℕ) (c : Cursor) → goesOn s (length w) c ≡ false → Ready s (length w) c → Onward s w c c
+pub onward-held : (s : Split) (w : List ℕ) (c : Cursor) → goesOn s (length w) c ≡ false → LevelNext s (length w) c → Onward s w c c
 onward-held s w c e p = go (c .good) refl (leb (s .length) (length w)) refl e
   where
     go : (g : Bool) → c .good ≡ g → (q : Bool) → leb (s .length) (length w) ≡ q → (g && q) ≡ false → Onward s w c c
@@ -129,9 +130,9 @@ pub record Goes (s : Split) (n : ℕ) (c : Cursor) : Type 0 where
   pub good : c .good ≡ true
   pub long : s .length ≤ n
   pub inside : Inside c
-  pub divides : Divides s c
+  pub divides : DividedBy s c
 
-pub goes : (s : Split) (n : ℕ) (c : Cursor) → goesOn s n c ≡ true → Ready s n c → Goes s n c
+pub goes : (s : Split) (n : ℕ) (c : Cursor) → goesOn s n c ≡ true → LevelNext s n c → Goes s n c
 goes s n c e p =
     let a = and-true (c .good) (leb (s .length) n) e in
     let l : s .length ≤ n = leb-true _ _ (a .1) in
@@ -150,24 +151,24 @@ single-guards at l p true true x t e = refl
 single-guards at l p true false x t e = ap bad (sym e)
 single-guards at l p false b x t e = clash (cc)
 
-module _ (s : Split) (w : List ℕ) (c : Cursor) (h : s .length ≤ length w) (g : c .good ≡ true) (d : Divides s c) where
+module _ (s : Split) (w : List ℕ) (c : Cursor) (h : s .length ≤ length w) (g : c .good ≡ true) (d : DividedBy s c) where
   -- the child of the cursor's cell
   abbrev childAt : ℕ → ℕ → Node
-  childAt column row = cell (ordinary (c .north) (c .east)) (sub (plainPart s) (boxOf c) column row)
+  childAt column row = cell (ordinary (c .north) (c .east)) (sub (plainPart s) (ordinaryBox c) column row)
 
   here : s .length - s .characters ≡ c .place
   here = omega (arith, d .at)
 
   -- reading on reads the level's digits by its form
-  goes-on : (f : Form) (l : List ℕ) → formOf (s .characters) (s .columns) ≡ f → digitsIn s w ≡ l
-      → onward s w (readOf c) ≡ shift (c .place) (readAs f false (plainPart s) childAt l)
+  goes-on : (f : Form) (l : List ℕ) → formOf (s .characters) (s .columns) ≡ f → levelDigits s w ≡ l
+      → onward s w (ordinaryRead c) ≡ shift (c .place) (readAs f false (plainPart s) childAt l)
   goes-on f l e k = rw (le-leb (s .length) (length w) h, g, k, e, here) refl
 
   pub onward-pair : (a b : ℕ) (r : Cursor) → ¬ (s .characters ≡ 1) → a ≡ digitOf (getD w (c .place) 0) → b ≡ digitOf (getD w (c .place + 1) 0)
       → Child s a b c r → Onward s w c r
   onward-pair a b r t p q k =
       let two : s .characters ≡ 2 = omega (arith, d .some-characters, d .few-characters) in
-      let l : digitsIn s w ≡ a ∷ b ∷ [] = rw (here, two, p, q) (map-two digitOf w (c .place) (omega (arith, d .at))) in
+      let l : levelDigits s w ≡ a ∷ b ∷ [] = rw (here, two, p, q) (map-two digitOf w (c .place) (omega (arith, d .at))) in
       record {
         read = k .read ∙ pair-guards (c .place) (s .length - 1) (ltb a (s .columns)) (ltb b (s .rows)) (childAt a b) (omega (arith, d .at)) ∙ sym (goes-on pair (a ∷ b ∷ []) (rw two refl) l);
         reached = λ x. (k .reached x .0, λ _. k .reached x .1);
@@ -176,7 +177,7 @@ module _ (s : Split) (w : List ℕ) (c : Cursor) (h : s .length ≤ length w) (g
   pub onward-single : (a : ℕ) (r : Cursor) → s .characters ≡ 1 → a ≡ digitOf (getD w (c .place) 0)
       → Child s (a % 2) (a / 2) c r → Onward s w c r
   onward-single a r t p k =
-      let l : digitsIn s w ≡ a ∷ [] = rw (here, t, p) (map-one digitOf w (c .place) (omega (arith, d .at))) in
+      let l : levelDigits s w ≡ a ∷ [] = rw (here, t, p) (map-one digitOf w (c .place) (omega (arith, d .at))) in
       let two : s .columns ≡ 2 = d .single t in
       record {
         read = k .read ∙ single-guards (c .place) (s .length - 1) (c .place) (ltb (a % 2) (s .columns)) (ltb (a / 2) (s .rows)) (childAt (a % 2) (a / 2)) (lt-ltb (a % 2) (s .columns) (omega arith)) (omega (arith, d .at)) ∙ sym (goes-on quad (a ∷ []) (rw (t, two) refl) l);
@@ -199,11 +200,11 @@ module _ (s : Split) (w : List ℕ) (c : Cursor) (h : s .length ≤ length w) (g
 
 -- ---- the answer
 
-pub answer-refused : (l : ℕ) (c : Cursor) → c .good ≡ false → refused (wrongCharacter (c .place)) ≡ answerOf l (readOf c)
-unfolding answerOf planeCodes
+pub answer-refused : (l : ℕ) (c : Cursor) → c .good ≡ false → refused (wrongCharacter (c .place)) ≡ ordinaryAnswer l (ordinaryRead c)
+unfolding ordinaryAnswer planeCodes
 answer-refused l c g = rw g refl
 
 pub answer-found : (l : ℕ) (c : Cursor) {west south : ℤ} → c .good ≡ true → west ≡ least (c .east) (c .x) (c .width) → south ≡ least (c .north) (c .y) (c .height)
-    → accepted (cellFrom l west south (c .width) (c .height)) ≡ answerOf l (readOf c)
-unfolding answerOf planeCodes
+    → accepted (cellFrom l west south (c .width) (c .height)) ≡ ordinaryAnswer l (ordinaryRead c)
+unfolding ordinaryAnswer planeCodes
 answer-found l c g e f = rw (g, e, f) refl

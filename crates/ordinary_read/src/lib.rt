@@ -7,20 +7,21 @@ ghost use Prim.Native.Nat.{_≤_, _<_};
 ghost use lib.ListN.{length};
 ghost use Rattle.grid.specs.Tree.{bad};
 ghost use Rattle.grid.specs.Answers.{planeRead};
+ghost use Rattle.grid.specs.Splits.{first};
 ghost use Rattle.grid.specs.Plane.{sheet};
 ghost use Rattle.grid.specs.inner.Roads.{laterRead};
-ghost use Rattle.ordinary_read.specs.Reading.{
-  readOf,
-  answerOf,
+ghost use Rattle.ordinary_read.specs.inner.Reading.{
+  ordinaryRead,
+  ordinaryAnswer,
   Inside,
-  Divides,
+  DividedBy,
   Decimal,
   goesOn,
-  Ready,
-  Started,
+  LevelNext,
+  AtSheet,
   Child,
   Onward,
-  Given,
+  SheetCode,
 };
 use grid::Cell;
 use grid::PlaneRead;
@@ -44,8 +45,8 @@ struct Cursor {
 impl Cursor {
     // At the cell of a zone and a row, after the first four characters.
     fn start(north: bool, zone: u32, row: u32) -> Cursor
-        requires { ⌜ (1 ≤ zone) × (zone ≤ 60) × (row < 22) ⌝ }
-        ensures { λ r. ⌜ Started north zone row r ⌝ }
+        requires { ⌜ (1 ≤ zone) × (zone ≤ first .columns) × (row < first .rows) ⌝ }
+        ensures { λ r. ⌜ AtSheet north zone row r ⌝ }
     {
         let s = grid::split_of(0);
         let east = 30 < zone;
@@ -64,7 +65,7 @@ impl Cursor {
 
     // At a character that is not allowed.
     fn stopped(mut self, place: usize) -> Cursor
-        ensures { λ r. ⌜ readOf r ≡ bad place ⌝ }
+        ensures { λ r. ⌜ ordinaryRead r ≡ bad place ⌝ }
     {
         self.good = false;
         self.place = place;
@@ -73,7 +74,7 @@ impl Cursor {
 
     // At the child in a column and a row of the level s; or at the column's character, or the row's, where there is none.
     fn child(self, s: Split, column: u32, row: u32) -> Cursor
-        requires { ⌜ Inside self × Divides s self ⌝ }
+        requires { ⌜ Inside self × DividedBy s self ⌝ }
         ensures { λ r. ⌜ Child s column row self r ⌝ }
     {
         if s.columns <= column {
@@ -108,7 +109,7 @@ impl Cursor {
     // Past the characters of the level s, where the cursor goes on; else where it was.
     // Two characters are column, then row; one is 2 · row + column.
     fn next(self, s: Split, code: &[u8]) -> Cursor
-        requires { ⌜ Ready s (length (now code)) self ⌝ }
+        requires { ⌜ LevelNext s (length (now code)) self ⌝ }
         ensures { λ r. ⌜ Onward s (now (code .entry)) self r ⌝ }
     {
         if !self.goes_on(s, code) {
@@ -125,7 +126,7 @@ impl Cursor {
 
     // The same past the two characters of a level that needs no letters.
     fn next_decimal(self, s: Split, code: &[u8]) -> Cursor
-        requires { ⌜ Ready s (length (now code)) self × Decimal s ⌝ }
+        requires { ⌜ LevelNext s (length (now code)) self × Decimal s ⌝ }
         ensures { λ r. ⌜ Onward s (now (code .entry)) self r ⌝ }
     {
         if !self.goes_on(s, code) {
@@ -140,7 +141,7 @@ impl Cursor {
     // What the reader answers.
     fn answer(self, level: u32) -> PlaneRead
         requires { ⌜ (self .good ≡ true → Inside self) ⌝ }
-        ensures { λ r. ⌜ planeRead r ≡ answerOf level (readOf self) ⌝ }
+        ensures { λ r. ⌜ planeRead r ≡ ordinaryAnswer level (ordinaryRead self) ⌝ }
     {
         if !self.good {
             return PlaneRead::Refused(Refusal {
@@ -160,9 +161,9 @@ impl Cursor {
 }
 
 // The cell of a code of a level in 1 to 10, or the place of its first character that is not allowed.
-// The first four characters are read: north or south, a zone of 1 to 60 and a row below 22.
+// The first four characters are read: north or south, a zone of 1 to 60 and one of the 22 rows.
 pub fn rest(level: u32, north: bool, zone: u32, row: u32, code: &[u8]) -> PlaneRead
-    requires { ⌜ Given level zone row (length (now code)) ⌝ }
+    requires { ⌜ SheetCode level zone row (length (now code)) ⌝ }
     ensures { λ r. ⌜ planeRead r ≡ laterRead level (sheet north zone row) (now (code .entry)) ⌝ }
 {
     Cursor::start(north, zone, row)

@@ -13,19 +13,18 @@ use lib.Seq.{sets}
 use borrow.Author.Tests.{ltb-true, leb-true, lt-ltb, le-ltb, eq-eqb, ne-eqb}
 use Rattle.grid.specs.declared.Place.{Place}
 use Rattle.grid.specs.declared.Split.{Split}
-use Rattle.grid.specs.Units.{POLAR, unit}
-use Rattle.grid.specs.inner.Roads.{squareOf}
+use Rattle.grid.specs.Units.{HALF, POLAR, unit}
 use Rattle.grid.specs.Characters.{charOf}
 use Rattle.grid.specs.Tree.{code}
 use Rattle.grid.specs.Codes.{codeIn}
-use Rattle.grid.specs.Splits.{splitAt}
-use Rattle.grid.specs.inner.Roads.{placeOf}
+use Rattle.grid.specs.Splits.{first, splitAt}
+use Rattle.grid.specs.inner.Roads.{squareOf, placeOf}
 use Rattle.grid.specs.Plane.{letter, zone, planeCodes, codeOf}
 use Rattle.grid.proofs.Cut.{allBelow, below}
 use Rattle.grid.proofs.Globe.{zone-high}
 use Rattle.grid.proofs.PlaneLaws.{index-unit, side-unit}
 use Rattle.grid.proofs.Lengths.{grows}
-use Rattle.ordinary_write.specs.inner.Writing.{Writable, Later, columnIn, rowIn, digitsIn, charsAt}
+use Rattle.ordinary_write.specs.inner.Writing.{OrdinaryWritable, Later, columnIn, rowIn, ordinaryDigits, ordinaryChars}
 
 -- ---- a level after the first
 
@@ -55,11 +54,11 @@ each f t {k} {s} h = go k (h .later) (h .ten) (h .is)
     go (suc j) a b e = subst⁻¹ (λ z. f z ≡ true) e (below (λ i. f (splitAt (suc i))) 9 j t (omega arith))
 
 -- a code's room is room for each of its levels
-pub room-at : {level : ℕ} {p : Place} {line : List ℕ} → Writable level p line → (k : ℕ) → k < level → splitAt k .length ≤ length line
+pub room-at : {level : ℕ} {p : Place} {line : List ℕ} → OrdinaryWritable level p line → (k : ℕ) → k < level → splitAt k .length ≤ length line
 room-at {level} w k b =
     omega (arith, w .room, grows k (level - 1) (omega (arith, w .some-level)) (omega (arith, w .some-level, w .ten-levels)))
 
-pub known : {level k : ℕ} {s : Split} {p : Place} {line : List ℕ} → Writable level p line → Later k s → k < level → Known s p line
+pub known : {level k : ℕ} {s : Split} {p : Place} {line : List ℕ} → OrdinaryWritable level p line → Later k s → k < level → Known s p line
 known {k = k} {s = s} {p = p} {line = line} w h b =
     let c : 2 ≤ s .columns = leb-true _ _ (each (λ s. leb 2 (s .columns)) refl h) in
     let r : 1 ≤ s .rows = leb-true _ _ (each (λ s. leb 1 (s .rows)) refl h) in
@@ -82,22 +81,22 @@ known {k = k} {s = s} {p = p} {line = line} w h b =
 
 -- its characters, where the code has the level
 chars-there : {level k : ℕ} {s : Split} (p : Place) (l : List ℕ) → s ≡ splitAt k → k < level
-    → sets l (s .length - s .characters) (map charOf (digitsIn s (p .x) (p .y))) ≡ sets l (placeOf (splitAt k)) (charsAt level k p)
-unfolding charsAt
+    → sets l (s .length - s .characters) (map charOf (ordinaryDigits s (p .x) (p .y))) ≡ sets l (placeOf (splitAt k)) (ordinaryChars level k p)
+unfolding ordinaryChars
 chars-there {level} {k} {s} p l e h =
-    rw (lt-ltb k level h) (ap (λ z. sets l (z .length - z .characters) (map charOf (digitsIn z (p .x) (p .y)))) e)
+    rw (lt-ltb k level h) (ap (λ z. sets l (z .length - z .characters) (map charOf (ordinaryDigits z (p .x) (p .y)))) e)
 
-pub none-stored : {level k : ℕ} (p : Place) (l : List ℕ) → level ≤ k → l ≡ sets l (placeOf (splitAt k)) (charsAt level k p)
-unfolding charsAt
+pub none-stored : {level k : ℕ} (p : Place) (l : List ℕ) → level ≤ k → l ≡ sets l (placeOf (splitAt k)) (ordinaryChars level k p)
+unfolding ordinaryChars
 none-stored {level} {k} p l h = rw (le-ltb k level h) refl
 
 module _ {level k : ℕ} {s : Split} (p : Place) (l : List ℕ) (e : s ≡ splitAt k) (h : k < level) where
-  pub one-stored : {d : ℕ} → s .characters ≡ 1 → s .columns ≡ 2 → d ≡ charOf (2 * rowIn s (p .y) + columnIn s (p .x)) → set l (s .length - s .characters) d ≡ sets l (placeOf (splitAt k)) (charsAt level k p)
+  pub one-stored : {d : ℕ} → s .characters ≡ 1 → s .columns ≡ 2 → d ≡ charOf (2 * rowIn s (p .y) + columnIn s (p .x)) → set l (s .length - s .characters) d ≡ sets l (placeOf (splitAt k)) (ordinaryChars level k p)
   one-stored c b f =
       rw f (rw (ne-eqb (s .characters) 2 (λ z. omega arith), eq-eqb (s .columns) 2 b) at (chars-there p l e h))
 
   pub two-stored : {d d' : ℕ} → s .characters ≡ 2 → d ≡ charOf (columnIn s (p .x)) → d' ≡ charOf (rowIn s (p .y))
-      → set (set l (s .length - s .characters) d) (s .length - s .characters + 1) d' ≡ sets l (placeOf (splitAt k)) (charsAt level k p)
+      → set (set l (s .length - s .characters) d) (s .length - s .characters + 1) d' ≡ sets l (placeOf (splitAt k)) (ordinaryChars level k p)
   two-stored c f g =
       rw (f, g, add-one) (rw (eq-eqb (s .characters) 2 c) at (chars-there p l e h))
 
@@ -111,14 +110,14 @@ char-letter : (r : ℕ) → charOf (10 + r) ≡ 65 + r
 unfolding charOf
 char-letter r = rw (le-ltb (10 + r) 10 (omega arith)) (omega arith)
 
-pub zone-small : (e : Bool) (x : ℕ) → x < 1327104000 → zone (unit e x) ≤ 60
+pub zone-small : (e : Bool) (x : ℕ) → x < HALF → zone (unit e x) ≤ first .columns
 zone-small e x h = zone-high (unit e x) (rw index-unit h)
 
-pub first-stored : (p : Place) (l : List ℕ) {z a r : ℕ} → p .x < 1327104000 → p .y < 648806400 → z ≡ zone (unit (p .east) (p .x)) → a ≡ charOf (letter (p .north)) → r ≡ p .y / 29491200
+pub first-stored : (p : Place) (l : List ℕ) {z a r : ℕ} → p .x < HALF → p .y < POLAR → z ≡ zone (unit (p .east) (p .x)) → a ≡ charOf (letter (p .north)) → r ≡ p .y / first .height
     → set (set (set (set l 0 a) 1 (48 + z / 10)) 2 (48 + z % 10)) 3 (65 + r) ≡ sets l 0 (codeOf 1 (squareOf p))
 unfolding codeOf codeIn planeCodes code
 first-stored p l {z} hx hy e f g =
-    let u : zone (unit (p .east) (p .x)) ≤ 60 = zone-small (p .east) (p .x) hx in
+    let u : zone (unit (p .east) (p .x)) ≤ first .columns = zone-small (p .east) (p .x) hx in
     rw (
       f,
       g,
@@ -128,5 +127,5 @@ first-stored p l {z} hx hy e f g =
       ← e,
       char-decimal (z / 10) (omega arith),
       char-decimal (z % 10) (omega arith),
-      char-letter (p .y / 29491200),
+      char-letter (p .y / first .height),
     ) refl

@@ -6,11 +6,10 @@ ghost use Prim.Native.Nat.{_≤_, _<_};
 ghost use lib.ListN.{length};
 ghost use lib.Seq.{sets};
 ghost use Rattle.grid.specs.Units.{HALF, POLAR, unit};
-ghost use Rattle.grid.specs.inner.Roads.{squareOf};
 ghost use Rattle.grid.specs.Splits.{splitAt};
-ghost use Rattle.grid.specs.inner.Roads.{placeOf};
+ghost use Rattle.grid.specs.inner.Roads.{squareOf, placeOf};
 ghost use Rattle.grid.specs.Plane.{zone, codeOf};
-ghost use Rattle.ordinary_write.specs.inner.Writing.{Writable, Later, charsAt};
+ghost use Rattle.ordinary_write.specs.inner.Writing.{OrdinaryWritable, Later, ordinaryChars};
 use grid::Place;
 use grid::Split;
 
@@ -42,8 +41,8 @@ fn put_first(p: Place, line: &mut [u8])
 
 // Level k + 1, a later one, over its split s: nothing where the code ends before it.
 fn put_level(level: u32, k: u32, s: Split, p: Place, line: &mut [u8])
-    requires { ⌜ Writable level p (now line) × Later k s ⌝ }
-    ensures { λ _. ⌜ now (line .exit) ≡ sets (now (line .entry)) (placeOf (splitAt k)) (charsAt level k p) ⌝ }
+    requires { ⌜ OrdinaryWritable level p (now line) × Later k s ⌝ }
+    ensures { λ _. ⌜ now (line .exit) ≡ sets (now (line .entry)) (placeOf (splitAt k)) (ordinaryChars level k p) ⌝ }
 {
     if level <= k {
         return;
@@ -61,7 +60,7 @@ fn put_level(level: u32, k: u32, s: Split, p: Place, line: &mut [u8])
 
 // The code of a level from the line's beginning on; the bytes after it stay.
 pub fn put(level: u32, p: Place, line: &mut [u8])
-    requires { ⌜ Writable level p (now line) ⌝ }
+    requires { ⌜ OrdinaryWritable level p (now line) ⌝ }
     ensures { λ _. ⌜ now (line .exit) ≡ sets (now (line .entry)) 0 (codeOf level (squareOf p)) ⌝ }
 {
     put_first(p, line);

@@ -8,13 +8,14 @@ use lib.IntN.{ℤ, pos, negsuc}
 use borrow.Author.Tests.{leb-true, le-leb, lt-leb, lt-ltb, le-ltb}
 use Rattle.grid.specs.declared.Place.{Place}
 use Rattle.grid.specs.declared.Refusal.{Refusal}
-use Rattle.grid.specs.Units.{side, index, unit, Square}
+use Rattle.grid.specs.Units.{HALF, QUARTER, side, index, unit, Square}
 use Rattle.grid.specs.inner.Roads.{squareOf}
 use Rattle.grid.specs.Answers.{refusal}
 use Rattle.grid.specs.Laying.{Text, refuse, text}
 use Rattle.grid.specs.Plane.{codeOf}
 use Rattle.grid.proofs.Cut.{clash}
-use Rattle.plane.specs.Text.{levelNumber, planeText, askedText, Placed, Fitting}
+use Rattle.plane.specs.Text.{levelNumber, planeText}
+use Rattle.plane.specs.inner.Asking.{askedText, Placed, Fitting}
 use Rattle.plane.specs.declared.Asked.{Asked}
 use Rattle.plane.specs.declared.Asked.the-variants.{At, Refused}
 
@@ -60,24 +61,24 @@ module _ (level longitude latitude : ℤ) {l : ℕ} (el : l ≡ levelNumber leve
     level-some : 0 < levelNumber level
     level-some = omega arith
 
-    pub asked-longitude : 1327104000 ≤ x → refuse (refusal 2 0) ≡ planeText level longitude latitude
+    pub asked-longitude : HALF ≤ x → refuse (refusal 2 0) ≡ planeText level longitude latitude
     unfolding planeText
-    asked-longitude h = rw (lt-ltb 0 (levelNumber level) level-some, le-ltb (index longitude) 1327104000 (omega arith)) refl
+    asked-longitude h = rw (lt-ltb 0 (levelNumber level) level-some, le-ltb (index longitude) HALF (omega arith)) refl
 
-    module _ (hx : x < 1327104000) {y : ℕ} (ey : y ≡ index latitude) where
-      pub asked-latitude : 663552000 ≤ y → refuse (refusal 3 0) ≡ planeText level longitude latitude
+    module _ (hx : x < HALF) {y : ℕ} (ey : y ≡ index latitude) where
+      pub asked-latitude : QUARTER ≤ y → refuse (refusal 3 0) ≡ planeText level longitude latitude
       unfolding planeText
-      asked-latitude h = rw (lt-ltb 0 (levelNumber level) level-some, lt-ltb (index longitude) 1327104000 (omega arith), le-ltb (index latitude) 663552000 (omega arith)) refl
+      asked-latitude h = rw (lt-ltb 0 (levelNumber level) level-some, lt-ltb (index longitude) HALF (omega arith), le-ltb (index latitude) QUARTER (omega arith)) refl
 
-      pub asked-at : y < 663552000 → {p : Place} → Placed longitude latitude p → text (codeOf l (squareOf p)) ≡ planeText level longitude latitude
+      pub asked-at : y < QUARTER → {p : Place} → Placed longitude latitude p → text (codeOf l (squareOf p)) ≡ planeText level longitude latitude
       unfolding planeText
       asked-at h {p} q =
-          rw (lt-ltb 0 (levelNumber level) level-some, lt-ltb (index longitude) 1327104000 (omega arith), lt-ltb (index latitude) 663552000 (omega arith))
+          rw (lt-ltb 0 (levelNumber level) level-some, lt-ltb (index longitude) HALF (omega arith), lt-ltb (index latitude) QUARTER (omega arith))
           (ap (λ (s : Square). text (codeOf l s)) (q .same) ∙ ap (λ (k : ℕ). text (codeOf k (record { longitude = longitude; latitude = latitude }))) el)
 
 -- ---- what was asked for, once its case is known
 
-pub fitting-at : {a : Asked} {l : ℕ} {p : Place} → a ≡ At l p → Fitting a → (1 ≤ l) × (l ≤ 10) × (p .x < 1327104000) × (p .y < 663552000)
+pub fitting-at : {a : Asked} {l : ℕ} {p : Place} → a ≡ At l p → Fitting a → (1 ≤ l) × (l ≤ 10) × (p .x < HALF) × (p .y < QUARTER)
 fitting-at e f = subst Fitting e f
 
 pub text-at : {a : Asked} {l : ℕ} {p : Place} {t : Text} → a ≡ At l p → askedText a ≡ t → text (codeOf l (squareOf p)) ≡ t

@@ -8,7 +8,7 @@ use Rattle.grid.specs.declared.Split.{Split}
 use Rattle.grid.specs.Splits.{splits, splitAt}
 use Rattle.grid.proofs.Cut.{Entry, tabled}
 use Rattle.grid.proofs.Lengths.{no-place}
-use Rattle.plane.specs.Text.{orZero, levelOf}
+use Rattle.plane.specs.inner.Lengths.{orZero, levelOf}
 
 pub length-at : (k level : ℕ) {s : Split} → s ≡ splitAt k → level ≡ k + 1 → s .length ≡ splitAt (level - 1) .length
 length-at k level e h = ap (λ (s : Split). s .length) e ∙ ap (λ (i : ℕ). splitAt i .length) (let z : k ≡ level - 1 = omega arith in z)

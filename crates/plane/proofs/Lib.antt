@@ -2,3 +2,4 @@ pub mod Start
 pub mod Lengths
 pub mod Asking
 pub mod Reading
+pub mod Equal

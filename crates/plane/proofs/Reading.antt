@@ -20,7 +20,7 @@ use Rattle.grid.proofs.Lists.{drop-map}
 use Rattle.grid.proofs.Families.{level-length}
 use Rattle.grid.proofs.Lengths.{total-length}
 use Rattle.grid.proofs.Theorems.{plane-sound}
-use Rattle.plane.specs.Text.{orZero, levelOf}
+use Rattle.plane.specs.inner.Lengths.{orZero, levelOf}
 -- the grid's laws of how long a code is, and of a place on the globe, passed on
 pub use Rattle.grid.proofs.Lengths.{code-length}
 pub use Rattle.grid.proofs.PlaneLaws.{on-globe}

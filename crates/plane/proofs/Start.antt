@@ -3,59 +3,66 @@
 use mathlib.Core.Path.{_≡_, refl, sym, _∙_, ap}
 use mathlib.Core.Bool.{Bool, true, false}
 use mathlib.Core.List.{List, [], _∷_, map}
-use Prim.Native.Nat.{ℕ, _+_, _-_, _*_, _≤_, _<_}
+use Prim.Native.Nat.{ℕ, _+_, _-_, _*_, _/_, _≤_, _<_}
 use native.Mathlib.Omega.{arith}
 use lib.Dec.{ltb}
 use lib.ListN.{length, take, getD}
 use borrow.Author.Tests.{ltb-true, ltb-false, lt-ltb, le-ltb, le-leb, lt-leb, eq-eqb, ne-eqb}
 use Rattle.grid.specs.Characters.{charOf, digitOf}
 use Rattle.grid.specs.inner.Roads.{decimalDigit}
+use Rattle.grid.specs.Splits.{first}
 use Rattle.grid.specs.Tree.{Read, ok, bad}
 use Rattle.grid.specs.Plane.{Node, pole, sheet, letter, globeChild}
 use Rattle.grid.proofs.Characters.{digit-char, char-digit, decimal-below, decimal-above}
-use Rattle.plane.specs.Start.{letteredRead, zonedRead}
+use Rattle.plane.specs.inner.Start.{letteredRead, zonedRead}
 
 module _ (n : Bool) (z d : ℕ) where
   pub letter-low : d < 10 → bad 3 ≡ letteredRead n z d
   unfolding letteredRead
   letter-low h = rw (lt-leb 10 d h) refl
 
-  pub letter-high : 31 < d → bad 3 ≡ letteredRead n z d
-  unfolding letteredRead
-  letter-high h = rw (le-leb 10 d (omega arith), le-ltb (d - 10) 22 (omega arith)) refl
+  module _ {rows : ℕ} (e : rows ≡ first .rows) (h : 10 ≤ d) where
+    pub letter-high : rows ≤ d - 10 → bad 3 ≡ letteredRead n z d
+    unfolding letteredRead
+    letter-high k = rw (le-leb 10 d h, le-ltb (d - 10) (first .rows) (omega arith)) refl
 
-  pub letter-row : 10 ≤ d → d ≤ 31 → ok (sheet n z (d - 10)) ≡ letteredRead n z d
-  unfolding letteredRead
-  letter-row h k = rw (le-leb 10 d h, lt-ltb (d - 10) 22 (omega arith)) refl
+    pub letter-row : d - 10 < rows → ok (sheet n z (d - 10)) ≡ letteredRead n z d
+    unfolding letteredRead
+    letter-row k = rw (le-leb 10 d h, lt-ltb (d - 10) (first .rows) (omega arith)) refl
 
-module _ (n : Bool) (b c d : ℕ) where
-  pub tens-high : 6 < b → bad 1 ≡ zonedRead n b c d
+module _ (n : Bool) (b c d : ℕ) {zones : ℕ} (e : zones ≡ first .columns) where
+  pub tens-high : zones / 10 < b → bad 1 ≡ zonedRead n b c d
   unfolding zonedRead
-  tens-high h = rw (lt-leb (10 * b) 60 (omega arith)) refl
+  tens-high h = rw (lt-leb (10 * b) (first .columns) (omega arith)) refl
 
-  pub ones-high : b ≤ 6 → 9 < c → bad 2 ≡ zonedRead n b c d
-  unfolding zonedRead
-  ones-high h k = rw (le-leb (10 * b) 60 (omega arith), lt-leb c 9 k) refl
+  module _ (h : b ≤ zones / 10) where
+    tens : 10 * b ≤ first .columns
+    tens = omega arith
 
-  module _ (h : b ≤ 6) (k : c ≤ 9) where
-    pub zone-high : 60 < 10 * b + c → bad 2 ≡ zonedRead n b c d
+    pub ones-high : 9 < c → bad 2 ≡ zonedRead n b c d
     unfolding zonedRead
-    zone-high l = rw (le-leb (10 * b) 60 (omega arith), le-leb c 9 k, lt-leb (10 * b + c) 60 l) refl
+    ones-high k = rw (le-leb (10 * b) (first .columns) tens, lt-leb c 9 k) refl
 
-    pub zone-some : 10 * b + c ≤ 60 → 0 < 10 * b + c → letteredRead n (10 * b + c) d ≡ zonedRead n b c d
-    unfolding zonedRead
-    zone-some l m =
-        rw (le-leb (10 * b) 60 (omega arith), le-leb c 9 k, le-leb (10 * b + c) 60 l, ne-eqb (10 * b + c) 0 (λ e. omega arith)) refl
+    module _ (k : c ≤ 9) where
+      pub zone-high : zones < 10 * b + c → bad 2 ≡ zonedRead n b c d
+      unfolding zonedRead
+      zone-high l = rw (le-leb (10 * b) (first .columns) tens, le-leb c 9 k, lt-leb (10 * b + c) (first .columns) (omega arith)) refl
 
-    pub zone-pole : 10 * b + c ≤ 0 → d ≡ 0 → ok (pole n) ≡ zonedRead n b c d
-    unfolding zonedRead
-    zone-pole l m =
-        rw (le-leb (10 * b) 60 (omega arith), le-leb c 9 k, le-leb (10 * b + c) 60 (omega arith), eq-eqb (10 * b + c) 0 (omega arith), eq-eqb d 0 m) refl
+      pub zone-some : 10 * b + c ≤ zones → 0 < 10 * b + c → letteredRead n (10 * b + c) d ≡ zonedRead n b c d
+      unfolding zonedRead
+      zone-some l m =
+          rw (le-leb (10 * b) (first .columns) tens, le-leb c 9 k, le-leb (10 * b + c) (first .columns) (omega arith), ne-eqb (10 * b + c) 0 (λ e. omega arith)) refl
 
-    pub zone-no-pole : 10 * b + c ≤ 0 → (d ≡ 0 → ⊥) → bad 3 ≡ zonedRead n b c d
-    unfolding zonedRead
-    zone-no-pole l m =
-        rw (le-leb (10 * b) 60 (omega arith), le-leb c 9 k, le-leb (10 * b + c) 60 (omega arith), eq-eqb (10 * b + c) 0 (omega arith), ne-eqb d 0 m) refl
+      module _ (l : 10 * b + c ≤ 0) where
+        pub zone-pole : d ≡ 0 → ok (pole n) ≡ zonedRead n b c d
+        unfolding zonedRead
+        zone-pole m =
+            rw (le-leb (10 * b) (first .columns) tens, le-leb c 9 k, le-leb (10 * b + c) (first .columns) (omega arith), eq-eqb (10 * b + c) 0 (omega arith), eq-eqb d 0 m) refl
+
+        pub zone-no-pole : (d ≡ 0 → ⊥) → bad 3 ≡ zonedRead n b c d
+        unfolding zonedRead
+        zone-no-pole m =
+            rw (le-leb (10 * b) (first .columns) tens, le-leb c 9 k, le-leb (10 * b + c) (first .columns) (omega arith), eq-eqb (10 * b + c) 0 (omega arith), ne-eqb d 0 m) refl
 
 -- ---- the first character
 
@@ -78,7 +85,7 @@ zoned-decimal n x y d = go (ltb (digitOf x) 10) refl (ltb (digitOf y) 10) refl
         rw (decimal-below x (ltb-true _ _ e), decimal-above y k, lt-leb (digitOf y) 9 (omega arith)) refl
     go false e q f =
         let k : 10 ≤ digitOf x = ltb-false _ _ e in
-        rw (decimal-above x k, lt-leb (10 * digitOf x) 60 (omega arith)) refl
+        rw (decimal-above x k, lt-leb (10 * digitOf x) (first .columns) (omega arith)) refl
 
 -- after N or S, it is the rule's
 zoned-child : (n : Bool) (b c d : ℕ) → zonedRead n b c d ≡ globeChild (letter n ∷ b ∷ c ∷ d ∷ [])

@@ -1,26 +1,28 @@
 // Plane codes of levels 1 to 10 (document 01): from position to code, and from code to cell.
 // The ordinary cells and the polar ones go their own roads below this crate; here the refusals are decided and the line is lent on.
 
+ghost use mathlib.Core.List.{map};
 ghost use mathlib.Core.Path.{_≡_};
-ghost use Prim.Native.Nat.{_+_, _-_, _*_, _≤_, _<_};
+ghost use Prim.Native.Nat.{_-_, _≤_, _<_};
 ghost use lib.ListN.{length, take};
-ghost use Rattle.grid.specs.Splits.{splitAt};
-ghost use Rattle.grid.specs.Units.{index};
-ghost use Rattle.grid.specs.inner.Roads.{squareOf};
+ghost use lib.Seq.{sets};
+ghost use Rattle.grid.specs.Units.{HALF, QUARTER, index};
+ghost use Rattle.grid.specs.Splits.{first, splitAt};
 ghost use Rattle.grid.specs.Characters.{digitOf};
 ghost use Rattle.grid.specs.Answers.{refusal, planeRead};
 ghost use Rattle.grid.specs.Laying.{text, laid, written};
 ghost use Rattle.grid.specs.Plane.{codeOf, cellOf, globeChild};
-ghost use Rattle.plane.specs.Text.{planeText, levelNumber, levelOf, askedText, Fitting, Same, Placed, Writable};
-ghost use Rattle.plane.specs.Start.{firstRead, Ranged, letteredRead, zonedRead};
-ghost use mathlib.Core.List.{map};
+ghost use Rattle.grid.specs.inner.Roads.{squareOf};
+ghost use Rattle.plane.specs.Text.{planeText, levelNumber};
+ghost use Rattle.plane.specs.inner.Asking.{askedText, Fitting, Same, Placed, PlaneWritable};
+ghost use Rattle.plane.specs.inner.Lengths.{levelOf};
+ghost use Rattle.plane.specs.inner.Start.{firstRead, Ranged, letteredRead, zonedRead};
 use grid::Place;
 use grid::PlaneRead;
 use grid::Refusal;
 use grid::Written;
 pub use grid::outward;
 pub use grid::upper;
-ghost use lib.Seq.{sets};
 
 // The length of the codes of a level.
 pub fn length_of(level: u32) -> usize
@@ -82,13 +84,14 @@ enum First {
 
 // The row letter of a zone.
 fn lettered(north: bool, z: u32, d: u32) -> First
-    requires { ⌜ (1 ≤ z) × (z ≤ 60) ⌝ }
+    requires { ⌜ (1 ≤ z) × (z ≤ first .columns) ⌝ }
     ensures { λ r. ⌜ (firstRead r ≡ letteredRead north z d) × Ranged r ⌝ }
 {
+    let rows = grid::split_of(0).rows;
     if d < 10 {
         return First::Bad(3);
     }
-    if 31 < d {
+    if rows <= d - 10 {
         return First::Bad(3);
     }
     First::Sheet(north, z, d - 10)
@@ -98,14 +101,15 @@ fn lettered(north: bool, z: u32, d: u32) -> First
 fn zoned(north: bool, b: u32, c: u32, d: u32) -> First
     ensures { λ r. ⌜ (firstRead r ≡ zonedRead north b c d) × Ranged r ⌝ }
 {
-    if 6 < b {
+    let zones = grid::split_of(0).columns;
+    if zones / 10 < b {
         return First::Bad(1);
     }
     if 9 < c {
         return First::Bad(2);
     }
     let z = 10 * b + c;
-    if 60 < z {
+    if zones < z {
         return First::Bad(2);
     }
     if 0 < z {
@@ -155,7 +159,7 @@ pub fn refuse(number: u32) -> Refusal
 
 // The place of a position on the globe.
 fn placed(longitude: i64, latitude: i64, x: u64, y: u64) -> Place
-    requires { ⌜ (x ≡ index longitude) × (y ≡ index latitude) × (x < 1327104000) × (y < 663552000) ⌝ }
+    requires { ⌜ (x ≡ index longitude) × (y ≡ index latitude) × (x < HALF) × (y < QUARTER) ⌝ }
     ensures { λ r. ⌜ Placed longitude latitude r ⌝ }
 {
     Place {
@@ -177,20 +181,25 @@ fn level_in(level: i64) -> u32
     if upper(level) { n as u32 } else { 0 }
 }
 
+// The ranges as they are held against an i64's outward index.
+const HALF: u64 = grid::HALF as u64;
+
+const QUARTER: u64 = grid::QUARTER as u64;
+
 // Refusals 1, 2 and 3, else the level and the place.
 pub fn ask(level: i64, longitude: i64, latitude: i64) -> Asked
     ensures { λ r. ⌜ (askedText r ≡ planeText level longitude latitude) × Fitting r × Same level longitude latitude r ⌝ }
 {
     let l = level_in(level);
+    let x = outward(longitude);
+    let y = outward(latitude);
     if l == 0 {
         return Asked::Refused(refuse(1));
     }
-    let x = outward(longitude);
-    if 1327104000 <= x {
+    if HALF <= x {
         return Asked::Refused(refuse(2));
     }
-    let y = outward(latitude);
-    if 663552000 <= y {
+    if QUARTER <= y {
         return Asked::Refused(refuse(3));
     }
     Asked::At(l, placed(longitude, latitude, x, y))
@@ -198,10 +207,10 @@ pub fn ask(level: i64, longitude: i64, latitude: i64) -> Asked
 
 // Writes the code of a level for a place from the line's first byte on.
 pub fn put(level: u32, p: Place, line: &mut [u8])
-    requires { ⌜ Writable level p (now line) ⌝ }
+    requires { ⌜ PlaneWritable level p (now line) ⌝ }
     ensures { λ _. ⌜ now (line .exit) ≡ sets (now (line .entry)) 0 (codeOf level (squareOf p)) ⌝ }
 {
-    if p.y < 648806400 {
+    if p.y < grid::POLAR {
         ordinary_write::put(level, p, line);
     } else {
         polar_write::put(level, p, line);
@@ -210,7 +219,7 @@ pub fn put(level: u32, p: Place, line: &mut [u8])
 
 // Lays the code of a level for a place into the line from `at` on, if there is room: refusal 5, else the number of bytes.
 pub fn lay(level: u32, p: Place, line: &mut [u8], at: usize) -> Written
-    requires { ⌜ (1 ≤ level) × (level ≤ 10) × (p .x < 1327104000) × (p .y < 663552000) ⌝ }
+    requires { ⌜ (1 ≤ level) × (level ≤ 10) × (p .x < HALF) × (p .y < QUARTER) ⌝ }
     ensures { λ r. ⌜ (written r, now (line .exit)) ≡ laid (text (codeOf level (squareOf p))) (now (line .entry)) at ⌝ }
 {
     let n = length_of(level);

@@ -6,7 +6,8 @@ use Rattle.grid.specs.Tree.{code, follow}
 use Rattle.grid.specs.Codes.{codeIn, readIn}
 use Rattle.grid.specs.Plane.{polarCellOf, planeCodes, codeOf, cellOf}
 use Rattle.grid.specs.Space.{spaceCodes, spaceCodeOf, spaceCellOf}
-use Rattle.plane.specs.Text.{planeText, levelOf}
+use Rattle.plane.specs.Text.{planeText}
+use Rattle.plane.specs.inner.Lengths.{levelOf}
 use Rattle.space.specs.Space.{spaceText, layeredText}
 use Rattle.reference.specs.Offsets.{movedTo, between, spanIn}
 use Rattle.reference.specs.Text.{fit, spelled, spanned, referenceText, targetOf, aimed, targetText}

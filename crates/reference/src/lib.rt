@@ -13,7 +13,7 @@ ghost use Rattle.grid.specs.Cells.{around};
 ghost use Rattle.grid.specs.Answers.{accepted, wrongCharacter, planeRead};
 ghost use Rattle.grid.specs.Laying.{text, laid, written};
 ghost use Rattle.grid.specs.Plane.{longitudeAt};
-ghost use Rattle.plane.specs.Text.{askedText, Fitting};
+ghost use Rattle.plane.specs.inner.Asking.{askedText, Fitting};
 ghost use Rattle.reference.specs.Offsets.{offsetDigit, movedTo, between, spanIn, spanOf};
 ghost use Rattle.reference.specs.Text.{fit, referenceCode, ofSecond, spelled, spanned, related, referenceText, targetSquare, targetOf, aimed, ledTo, targetText};
 ghost use Rattle.reference.specs.inner.Parts.{offsetText, Small, Known, AsRead, Steps};

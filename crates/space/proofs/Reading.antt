@@ -30,7 +30,7 @@ use Rattle.layers.specs.declared.LayersRead.the-variants as layers-as
 use Rattle.layers.specs.Heights.{heightLevels, heightRead, layersRead}
 use Rattle.layers.proofs.Radices.{radices-fair}
 use Rattle.layers.proofs.Inside.{read-inside}
-use Rattle.plane.specs.Text.{orZero}
+use Rattle.plane.specs.inner.Lengths.{orZero}
 use Rattle.space.specs.Weave.{Strand, firsts, seconds, placeTwo, together}
 use Rattle.space.specs.Space.{spaceLevelOf, tenStrands, planePart, heightPart, planePlace, joinedAnswer, Lying}
 use Rattle.space.proofs.Weaving.{sliced-one, sliced-two, parts-map, follow-woven}

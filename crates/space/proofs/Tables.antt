@@ -12,7 +12,7 @@ use Rattle.grid.specs.Space.{spaceLengths}
 use Rattle.grid.specs.Splits.{splitAt}
 use Rattle.grid.proofs.Cut.{Entry, tabled, below}
 use Rattle.grid.proofs.Lengths.{no-place}
-use Rattle.plane.specs.Text.{orZero}
+use Rattle.plane.specs.inner.Lengths.{orZero}
 use Rattle.space.specs.Weave.{placeIn}
 use Rattle.space.specs.Space.{spaceLevelOf, countFrom, planePlace, heightPlace}
 

@@ -35,7 +35,8 @@ use Rattle.layers.proofs.Digits.{height-length}
 use Rattle.layers.proofs.Sides.{asked-at, layer-in}
 use Rattle.plane.specs.declared.Asked.{Asked}
 use Rattle.plane.specs.declared.Asked.the-variants as plane-as
-use Rattle.plane.specs.Text.{levelNumber, planeText, askedText, Fitting, Same}
+use Rattle.plane.specs.Text.{levelNumber, planeText}
+use Rattle.plane.specs.inner.Asking.{askedText, Fitting, Same}
 use Rattle.plane.proofs.Reading.{code-length, on-globe}
 use Rattle.space.specs.Weave.{weave, placeOne, placeTwo, spread}
 use Rattle.space.specs.Space.{spaceText, layeredText, askedSpaceText, tenStrands, Fits, FittingSpace}

@@ -19,7 +19,8 @@ use Rattle.grid.specs.Answers.{Answer, accepted, refused, wrongCharacter}
 use Rattle.grid.specs.Laying.{Text, refuse, text, unless}
 use Rattle.grid.specs.Layers.{radices, product, Stack, floorOf, thicknessOf}
 use Rattle.grid.specs.Space.{spaceCodeOf, spaceLengths}
-use Rattle.plane.specs.Text.{atLevel, atPosition, orZero}
+use Rattle.plane.specs.Text.{atLevel, atPosition}
+use Rattle.plane.specs.inner.Lengths.{orZero}
 use Rattle.layers.specs.declared.LayersRead.{LayersRead}
 use Rattle.layers.specs.declared.LayersRead.the-variants as layers
 use Rattle.layers.specs.Heights.{layerOf}

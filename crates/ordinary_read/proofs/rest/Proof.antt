@@ -1,5 +1,5 @@
 -- `rest` meets its contract: the cursor goes through the nine levels, and they come to what the rules read. Assumes nothing.
-use mathlib.Core.Path.{_∙_}
+use mathlib.Core.Path.{refl, _∙_}
 use native.Mathlib.Omega.{arith}
 use Prim.Native.Nat.{ℕ}
 use borrow.Author.Needs.{needs}
@@ -80,25 +80,25 @@ split-of-requires-6 : tie.Need-split-of-requires-6
 split-of-requires-6 c κs = search needs
 
 next-decimal-requires : tie.Need-next-decimal-requires
-next-decimal-requires c κs = (ready 5 (stage-5 (c .before)) (c .split-of6 .ensures) (omega arith), decimal 0 (c .split-of6 .ensures) (omega arith))
+next-decimal-requires c κs = (ready 5 (stage-5 (c .before)) (c .split-of6 .ensures) (omega arith), decimal 6 (c .split-of6 .ensures) refl refl refl)
 
 split-of-requires-7 : tie.Need-split-of-requires-7
 split-of-requires-7 c κs = search needs
 
 next-decimal-requires-2 : tie.Need-next-decimal-requires-2
-next-decimal-requires-2 c κs = (ready 6 (stage-6 (c .before)) (c .split-of7 .ensures) (omega arith), decimal 1 (c .split-of7 .ensures) (omega arith))
+next-decimal-requires-2 c κs = (ready 6 (stage-6 (c .before)) (c .split-of7 .ensures) (omega arith), decimal 7 (c .split-of7 .ensures) refl refl refl)
 
 split-of-requires-8 : tie.Need-split-of-requires-8
 split-of-requires-8 c κs = search needs
 
 next-decimal-requires-3 : tie.Need-next-decimal-requires-3
-next-decimal-requires-3 c κs = (ready 7 (stage-7 (c .before)) (c .split-of8 .ensures) (omega arith), decimal 2 (c .split-of8 .ensures) (omega arith))
+next-decimal-requires-3 c κs = (ready 7 (stage-7 (c .before)) (c .split-of8 .ensures) (omega arith), decimal 8 (c .split-of8 .ensures) refl refl refl)
 
 split-of-requires-9 : tie.Need-split-of-requires-9
 split-of-requires-9 c κs = search needs
 
 next-decimal-requires-4 : tie.Need-next-decimal-requires-4
-next-decimal-requires-4 c κs = (ready 8 (stage-8 (c .before)) (c .split-of9 .ensures) (omega arith), decimal 3 (c .split-of9 .ensures) (omega arith))
+next-decimal-requires-4 c κs = (ready 8 (stage-8 (c .before)) (c .split-of9 .ensures) (omega arith), decimal 9 (c .split-of9 .ensures) refl refl refl)
 
 answer-requires : tie.Need-answer-requires
 answer-requires c κs g = stage-9 c .reached g .0

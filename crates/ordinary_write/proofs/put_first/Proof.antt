@@ -4,15 +4,17 @@ use Prim.Native.Nat.{ℕ, _/_, _<_}
 use native.Mathlib.Omega.{arith}
 use lib.ListN.{length-set}
 use borrow.Author.Needs.{needs}
+use Rattle.grid.specs.Units.{POLAR}
+use Rattle.grid.specs.Splits.{first}
 use Rattle.ordinary_write.proofs.Stores.{zone-small, first-stored}
 use Rattle.ordinary_write.proofs.put_first.Statement.{statement}
 use Rattle.ordinary_write.proofs.put_first.Tie as tie
 
-high : (c : tie.After-split-of) → c .split-of .result .height ≡ 29491200
+high : (c : tie.After-split-of) → c .split-of .result .height ≡ first .height
 high c = ap (λ z. z .height) (c .split-of .ensures)
 
-few : (c : tie.After-split-of) → c .before .before .args .p .y / c .split-of .result .height < 22
-few c = let h : c .before .before .args .p .y < 648806400 = c .before .before .pre .1 in rw (high c) (omega arith)
+few : (c : tie.After-split-of) → c .before .before .args .p .y / c .split-of .result .height < first .rows
+few c = let h : c .before .before .args .p .y < POLAR = c .before .before .pre .1 in rw (high c) (omega arith)
 
 split-of-requires : tie.Need-split-of-requires
 split-of-requires c κs = search needs
@@ -64,7 +66,7 @@ same-length c = search needs
 returns : tie.Need-returns
 returns c =
     let s = c .before .before .before .before .before .before in
-    let y : s .args .p .y / c .before .before .before .before .split-of .result .height ≡ s .args .p .y / 29491200 =
+    let y : s .args .p .y / c .before .before .before .before .split-of .result .height ≡ s .args .p .y / first .height =
     ap (λ (d : ℕ). s .args .p .y / d) (high (c .before .before .before .before)) in
     first-stored (s .args .p) _ (s .pre .0) (s .pre .1) (c .before .before .before .zone .ensures) (c .before .before .hemisphere .ensures) y
 

@@ -3,14 +3,16 @@ use mathlib.Core.Path.{_≡_, ap, refl}
 use Prim.Native.Nat.{_/_, _<_}
 use native.Mathlib.Omega.{arith}
 use borrow.Author.Needs.{needs}
+use Rattle.grid.specs.Units.{HALF}
+use Rattle.grid.specs.Splits.{first}
 use Rattle.ordinary_write.proofs.zone.Statement.{statement}
 use Rattle.ordinary_write.proofs.zone.Tie as tie
 
-wide : (c : tie.After-split-of) → c .split-of .result .width ≡ 44236800
+wide : (c : tie.After-split-of) → c .split-of .result .width ≡ first .width
 wide c = ap (λ z. z .width) (c .split-of .ensures)
 
 few : (c : tie.After-split-of) → c .before .args .x / c .split-of .result .width < 30
-few c = let h : c .before .args .x < 1327104000 = c .before .pre in rw (wide c) (omega arith)
+few c = let h : c .before .args .x < HALF = c .before .pre in rw (wide c) (omega arith)
 
 split-of-requires : tie.Need-split-of-requires
 split-of-requires c κs = search needs

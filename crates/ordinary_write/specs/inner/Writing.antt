@@ -14,7 +14,7 @@ use Rattle.grid.specs.Splits.{splitAt}
 use Rattle.grid.specs.Plane.{formOf, write}
 
 -- a level, an ordinary position, and a line with room for its code
-pub record Writable (level : ℕ) (p : Place) (line : List ℕ) : Type 0 where
+pub record OrdinaryWritable (level : ℕ) (p : Place) (line : List ℕ) : Type 0 where
   pub some-level : 1 ≤ level
   pub ten-levels : level ≤ 10
   pub x-in : p .x < HALF
@@ -36,9 +36,9 @@ abbrev pub rowIn : Split → ℕ → ℕ
 rowIn s y = y / s .height % s .rows
 
 -- the digits of a level after the first
-abbrev pub digitsIn : Split → ℕ → ℕ → List ℕ
-digitsIn s x y = write (formOf (s .characters) (s .columns)) (columnIn s x) (rowIn s y)
+abbrev pub ordinaryDigits : Split → ℕ → ℕ → List ℕ
+ordinaryDigits s x y = write (formOf (s .characters) (s .columns)) (columnIn s x) (rowIn s y)
 
 -- the characters of level k + 1 in a code of a level; none where the code ends before them
-unfoldable pub charsAt : ℕ → ℕ → Place → List ℕ
-charsAt level k p = cond (ltb k level) (map charOf (digitsIn (splitAt k) (p .x) (p .y))) []
+unfoldable pub ordinaryChars : ℕ → ℕ → Place → List ℕ
+ordinaryChars level k p = cond (ltb k level) (map charOf (ordinaryDigits (splitAt k) (p .x) (p .y))) []

@@ -1,6 +1,7 @@
 -- `plane::lay` meets its contract. Assumes nothing.
 use mathlib.Core.Path.{refl, _∙_, sym}
 use Prim.Native.Nat.{_<_}
+use Rattle.grid.specs.Units.{QUARTER}
 use Rattle.grid.specs.inner.Roads.{squareOf}
 use Rattle.grid.proofs.Laying.{laid-past-by, laid-short-by, laid-lent}
 use Rattle.plane.proofs.Reading.{code-length, on-globe}
@@ -8,7 +9,7 @@ use borrow.Author.Needs.{needs}
 use Rattle.plane.proofs.lay.Statement.{statement}
 use Rattle.plane.proofs.lay.Tie as tie
 
-high : (s : tie.Start) → s .args .p .y < 663552000
+high : (s : tie.Start) → s .args .p .y < QUARTER
 high s = s .pre .3
 
 length-of-requires : tie.Need-length-of-requires

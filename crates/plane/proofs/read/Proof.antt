@@ -2,7 +2,7 @@
 use mathlib.Core.Path.{sym, _∙_, ap, subst}
 use lib.ListN.{length}
 use Rattle.grid.specs.Answers as answers
-use Rattle.plane.specs.Start.{firstRead, Ranged}
+use Rattle.plane.specs.inner.Start.{firstRead, Ranged}
 use Rattle.plane.proofs.Reading.{Leveled, leveled, read-none, read-first, read-rest, length-four}
 use borrow.Author.Needs.{needs}
 use Rattle.plane.proofs.read.Statement.{statement}

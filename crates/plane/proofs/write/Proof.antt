@@ -3,7 +3,8 @@ use mathlib.Core.Path.{_≡_, _∙_, ap}
 use mir.Facts.{toZ-ofZ}
 use Rattle.grid.specs.Laying.{Text, laid}
 use Rattle.grid.proofs.Laying.{laid-refused}
-use Rattle.plane.specs.Text.{askedText, planeText}
+use Rattle.plane.specs.Text.{planeText}
+use Rattle.plane.specs.inner.Asking.{askedText}
 use Rattle.plane.proofs.Asking.{fitting-at, text-at, text-refused}
 use borrow.Author.Needs.{needs}
 use Rattle.plane.proofs.write.Statement.{statement}

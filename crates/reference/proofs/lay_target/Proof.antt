@@ -3,7 +3,7 @@ use mathlib.Core.Path.{sym, _∙_, ap}
 use Rattle.grid.proofs.Laying.{laid-refused}
 use Rattle.grid.specs.Laying.{laid}
 use Rattle.plane.proofs.Asking.{fitting-at}
-use Rattle.plane.specs.Text.{askedText}
+use Rattle.plane.specs.inner.Asking.{askedText}
 use borrow.Author.Needs.{needs}
 use Rattle.reference.proofs.lay_target.Statement.{statement}
 use Rattle.reference.proofs.lay_target.Tie as tie

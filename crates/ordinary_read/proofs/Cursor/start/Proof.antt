@@ -8,7 +8,7 @@ use mir.Val.{Fits}
 use borrow.Author.Needs.{needs}
 use borrow.Author.Tests.{ltb-true, ltb-false}
 use Rattle.grid.specs.declared.Split.{Split}
-use Rattle.ordinary_read.specs.Reading.{Started}
+use Rattle.ordinary_read.specs.inner.Reading.{AtSheet}
 use Rattle.ordinary_read.proofs.Steps.{begun, started-east, started-west}
 use Rattle.ordinary_read.proofs.Cursor.start.Statement.{statement}
 use Rattle.ordinary_read.proofs.Cursor.start.Tie as tie
@@ -38,7 +38,7 @@ returns c =
     let j = c .before .before .before in
     let s = j .before .before in
     let z = s .args .zone in
-    subst⁻¹ (λ (t : Split). Started (s .args .north) z (s .args .row) (begun (s .args .north) z (j .if1 .column) (s .args .row) t)) (j .before .split-of .ensures)
+    subst⁻¹ (λ (t : Split). AtSheet (s .args .north) z (s .args .row) (begun (s .args .north) z (j .if1 .column) (s .args .row) t)) (j .before .split-of .ensures)
     (⊎-elim (λ w. started-east _ _ _ _ (s .pre .2) (ltb-true 30 z (w .0 .taken)) (s .pre .1) (w .1))
     (λ w. started-west _ _ _ _ (s .pre .2) (s .pre .0) (ltb-false 30 z (w .0 .left)) (w .1))
     (j .if1 .came))

@@ -20,35 +20,35 @@ use Rattle.ordinary_read.specs.declared.Cursor.{Cursor}
 -- ---- what a cursor means
 
 -- from where its cell begins, as large as it is
-abbrev pub boxOf : Cursor → Box
-boxOf c = record { x = c .x; w = c .width; y = c .y; h = c .height }
+abbrev pub ordinaryBox : Cursor → Box
+ordinaryBox c = record { x = c .x; w = c .width; y = c .y; h = c .height }
 
 -- the cell read so far, or the place of the first character that is not allowed
-abbrev pub readOf : Cursor → Read Node
-readOf c = cond (c .good) (ok (cell (ordinary (c .north) (c .east)) (boxOf c))) (bad (c .place))
+abbrev pub ordinaryRead : Cursor → Read Node
+ordinaryRead c = cond (c .good) (ok (cell (ordinary (c .north) (c .east)) (ordinaryBox c))) (bad (c .place))
 
 -- ---- what reading does
 
 -- the digits of the level s: its characters end where the code of that level ends
-abbrev pub digitsIn : Split → List ℕ → List ℕ
-digitsIn s w = map digitOf (take (s .characters) (drop (s .length - s .characters) w))
+abbrev pub levelDigits : Split → List ℕ → List ℕ
+levelDigits s w = map digitOf (take (s .characters) (drop (s .length - s .characters) w))
 
 -- what was read, and then the level s, where the code w has it
 abbrev pub onward : Split → List ℕ → Read Node → Read Node
 onward s w r =
-    cond (leb (s .length) (length w)) (next (s .length - s .characters) r (λ n. childOf s n (digitsIn s w))) r
+    cond (leb (s .length) (length w)) (next (s .length - s .characters) r (λ n. childOf s n (levelDigits s w))) r
 
 -- the child in a column and a row of the cursor's cell: a column that the level s has not is bad at the cursor, a row at the level's last character
-abbrev pub childIn : Split → ℕ → ℕ → Cursor → Read Node
-childIn s column row c =
+abbrev pub ordinaryChild : Split → ℕ → ℕ → Cursor → Read Node
+ordinaryChild s column row c =
     guard (c .place) (ltb column (s .columns))
     (guard (s .length - 1) (ltb row (s .rows))
-    (ok (cell (ordinary (c .north) (c .east)) (sub (plainPart s) (boxOf c) column row))))
+    (ok (cell (ordinary (c .north) (c .east)) (sub (plainPart s) (ordinaryBox c) column row))))
 
 -- what a plane reader answers for what was read in a code of level l
-unfoldable pub answerOf : ℕ → Read Node → Answer Cell
+unfoldable pub ordinaryAnswer : ℕ → Read Node → Answer Cell
 unfolding planeCodes
-answerOf l r = answer planeCodes l r
+ordinaryAnswer l r = answer planeCodes l r
 
 -- ---- where a good cursor stands
 
@@ -60,13 +60,13 @@ pub record Inside (c : Cursor) : Type 0 where
   pub some-height : 0 < c .height
 
 -- its cell is as large as those of the level s, and the level's characters are read
-pub record Stands (s : Split) (c : Cursor) : Type 0 where
+pub record LevelCell (s : Split) (c : Cursor) : Type 0 where
   pub wide : c .width ≡ s .width
   pub high : c .height ≡ s .height
   pub at : c .place ≡ s .length
 
 -- the level s divides its cell, and the level's one or two characters come next
-pub record Divides (s : Split) (c : Cursor) : Type 0 where
+pub record DividedBy (s : Split) (c : Cursor) : Type 0 where
   pub wide : s .columns * s .width ≡ c .width
   pub high : s .rows * s .height ≡ c .height
   pub some-width : 0 < s .width
@@ -87,37 +87,37 @@ abbrev pub goesOn : Split → ℕ → Cursor → Bool
 goesOn s n c = c .good && leb (s .length) n
 
 -- before the level s, in a code of n characters: where the code has the level, it comes next
-abbrev pub Ready : Split → ℕ → Cursor → Type 0
-Ready s n c = c .good ≡ true → Inside c × (s .length ≤ n → Divides s c)
+abbrev pub LevelNext : Split → ℕ → Cursor → Type 0
+LevelNext s n c = c .good ≡ true → Inside c × (s .length ≤ n → DividedBy s c)
 
 -- after it: where the code has the level, it is read
-abbrev pub Reached : Split → ℕ → Cursor → Type 0
-Reached s n c = c .good ≡ true → Inside c × (s .length ≤ n → Stands s c)
+abbrev pub LevelRead : Split → ℕ → Cursor → Type 0
+LevelRead s n c = c .good ≡ true → Inside c × (s .length ≤ n → LevelCell s c)
 
 -- ---- what each method makes
 
 -- the cell of level 1
-pub record Started (north : Bool) (zone row : ℕ) (c : Cursor) : Type 0 where
-  pub read : readOf c ≡ ok (sheet north zone row)
+pub record AtSheet (north : Bool) (zone row : ℕ) (c : Cursor) : Type 0 where
+  pub read : ordinaryRead c ≡ ok (sheet north zone row)
   pub inside : Inside c
-  pub stands : Stands first c
+  pub stands : LevelCell first c
 
 -- the child in a column and a row
 pub record Child (s : Split) (column row : ℕ) (c r : Cursor) : Type 0 where
-  pub read : readOf r ≡ childIn s column row c
-  pub reached : r .good ≡ true → Inside r × Stands s r
+  pub read : ordinaryRead r ≡ ordinaryChild s column row c
+  pub reached : r .good ≡ true → Inside r × LevelCell s r
 
 -- one level more
 pub record Onward (s : Split) (w : List ℕ) (c r : Cursor) : Type 0 where
-  pub read : readOf r ≡ onward s w (readOf c)
-  pub reached : Reached s (length w) r
+  pub read : ordinaryRead r ≡ onward s w (ordinaryRead c)
+  pub reached : LevelRead s (length w) r
 
 -- ---- what the reader is given: the zone and the row of a code, and its level, which its length n tells
 
-pub record Given (level zone row n : ℕ) : Type 0 where
+pub record SheetCode (level zone row n : ℕ) : Type 0 where
   pub some-level : 1 ≤ level
   pub last-level : level ≤ 10
   pub some-zone : 1 ≤ zone
-  pub last-zone : zone ≤ 60
-  pub last-row : row < 22
+  pub last-zone : zone ≤ first .columns
+  pub last-row : row < first .rows
   pub length-is : n ≡ splitAt (level - 1) .length
