@@ -16,7 +16,7 @@ use Rattle.grid.specs.Plane.{Node, pole, polarNode}
 use Rattle.grid.proofs.Cut.{clash}
 use Rattle.grid.proofs.Poles.{placed}
 use Rattle.polar_read.specs.declared.Cursor.{Cursor}
-use Rattle.polar_read.specs.Reading.{startOf, HasRead, soFar, Reached}
+use Rattle.polar_read.specs.inner.Reading.{startOf, HasRead, soFar, PolarReached}
 use Rattle.polar_read.proofs.Step.{two-digits, shift-guard}
 use Rattle.polar_read.proofs.SoFar.{so-far-on}
 
@@ -61,7 +61,7 @@ unfolding soFar follow
 first-level n w = refl
 
 -- the cursor of level 2
-reached : (n : Bool) (w : List ℕ) {r : Read Node} {c : Cursor} → r ≡ soFar n 2 w → HasRead n 6 r c → Reached 2 w c × (c .north ≡ n)
+reached : (n : Bool) (w : List ℕ) {r : Read Node} {c : Cursor} → r ≡ soFar n 2 w → HasRead n 6 r c → PolarReached 2 w c × (c .north ≡ n)
 reached n w e t =
     (record { means = t .means ∙ e ∙ ap (λ (b : Bool). soFar b 2 w) (sym (t .sided)); placed = t .placed; sided = refl; round = t .round }, t .sided)
 
@@ -69,11 +69,11 @@ module _ (n : Bool) (w : List ℕ) {a : ℕ} (l : 6 ≤ length w) (ea : a ≡ di
   both : {b : ℕ} → b ≡ digitOf (getD w 5 0) → soFar n 2 w ≡ guard 4 (ltb a 4) (guard 5 (ltb b 4) (ok (polarNode n (4 * a + b))))
   both {b} eb = so-far-on n 1 w (omega arith) (omega arith) (first-level n w) ∙ rw (two-digits w 4 l, ← ea, ← eb, shift-guard, shift-guard) refl
 
-  pub second-first : {c : Cursor} → 4 ≤ a → HasRead n 6 (bad 4) c → Reached 2 w c × (c .north ≡ n)
+  pub second-first : {c : Cursor} → 4 ≤ a → HasRead n 6 (bad 4) c → PolarReached 2 w c × (c .north ≡ n)
   second-first h t = reached n w (sym (both refl ∙ rw (le-ltb a 4 h) refl)) t
 
-  pub second-second : {b : ℕ} {c : Cursor} → b ≡ digitOf (getD w 5 0) → a < 4 → 4 ≤ b → HasRead n 6 (bad 5) c → Reached 2 w c × (c .north ≡ n)
+  pub second-second : {b : ℕ} {c : Cursor} → b ≡ digitOf (getD w 5 0) → a < 4 → 4 ≤ b → HasRead n 6 (bad 5) c → PolarReached 2 w c × (c .north ≡ n)
   second-second {b} eb h i t = reached n w (sym (both eb ∙ rw (lt-ltb a 4 h, le-ltb b 4 i) refl)) t
 
-  pub second-both : {b : ℕ} {c : Cursor} → b ≡ digitOf (getD w 5 0) → a < 4 → b < 4 → HasRead n 6 (ok (polarNode n (4 * a + b))) c → Reached 2 w c × (c .north ≡ n)
+  pub second-both : {b : ℕ} {c : Cursor} → b ≡ digitOf (getD w 5 0) → a < 4 → b < 4 → HasRead n 6 (ok (polarNode n (4 * a + b))) c → PolarReached 2 w c × (c .north ≡ n)
   second-both {b} eb h i t = reached n w (sym (both eb ∙ rw (lt-ltb a 4 h, lt-ltb b 4 i) refl)) t

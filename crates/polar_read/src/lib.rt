@@ -1,6 +1,6 @@
 // Reading a polar plane code (document 01, "The poles") on from its first four characters, N000 or S000.
 // The reading place is a cursor, a value: each level read hands back the next one.
-// What a cursor means, and what was read, stands in specs/Reading.antt; what the steps ask for in specs/Room.antt.
+// What a cursor means, and what was read, stands in specs/inner/Reading.antt; what the steps ask for in specs/inner/Room.antt.
 
 ghost use mathlib.Core.Path.{_≡_};
 ghost use mathlib.Core.Bool.{true};
@@ -10,9 +10,9 @@ ghost use Rattle.grid.specs.Tree.{ok, bad};
 ghost use Rattle.grid.specs.Answers.{planeRead};
 ghost use Rattle.grid.specs.Plane.{pole, allowed, longitudeAt, leastFromPole, cellAt, polarNode};
 ghost use Rattle.grid.specs.inner.Roads.{laterRead};
-ghost use Rattle.polar_read.specs.Reading.{nodeOf, readOf, startOf, Round, HasRead, Moved, Reached, answerOf};
-ghost use Rattle.polar_read.specs.Reading.{columnsOf, inmostOf, divided, childIn, settledOf, stepOf};
-ghost use Rattle.polar_read.specs.Room.{OfLevel, Whole, Room, ChildRoom, Ready};
+ghost use Rattle.polar_read.specs.inner.Reading.{nodeOf, polarReading, startOf, Round, HasRead, Moved, PolarReached, polarAnswer};
+ghost use Rattle.polar_read.specs.inner.Reading.{columnsOf, inmostOf, divided, polarChild, settledOf, polarStep};
+ghost use Rattle.polar_read.specs.inner.Room.{OfLevel, Whole, PolarRoom, ChildRoom, PolarReady};
 use grid::Cell;
 use grid::PlaneRead;
 use grid::Refusal;
@@ -123,7 +123,7 @@ impl Cursor {
     // Level 2: two digits below 4 name one of the sixteen polar cells.
     fn second(self, code: &[u8]) -> Cursor
         requires { ⌜ Round self × (6 ≤ length (now code)) ⌝ }
-        ensures { λ r. ⌜ Reached 2 (now (code .entry)) r × (r .north ≡ self .north) ⌝ }
+        ensures { λ r. ⌜ PolarReached 2 (now (code .entry)) r × (r .north ≡ self .north) ⌝ }
     {
         let a = grid::digit(code[4]);
         if 4 <= a {
@@ -167,7 +167,7 @@ impl Cursor {
     // The child in column c and row r.
     fn child(mut self, s: Split, columns: u32, c: u32, r: u32) -> Cursor
         requires { ⌜ ChildRoom self s columns c r ⌝ }
-        ensures { λ m. ⌜ Moved self s (ok (childIn self s c r)) m ⌝ }
+        ensures { λ m. ⌜ Moved self s (ok (polarChild self s c r)) m ⌝ }
     {
         let inmost = self.inmost(r);
         self.place = self.place + s.characters;
@@ -184,7 +184,7 @@ impl Cursor {
 
     // The child in column c and row r, if there is one; else the character at a place is not allowed.
     fn settled(self, s: Split, columns: u32, c: u32, r: u32, at: usize) -> Cursor
-        requires { ⌜ Room self s × (columns ≡ columnsOf self s) ⌝ }
+        requires { ⌜ PolarRoom self s × (columns ≡ columnsOf self s) ⌝ }
         ensures { λ m. ⌜ Moved self s (settledOf self s c r at) m ⌝ }
     {
         if self.allows(s, columns, c, r) {
@@ -196,8 +196,8 @@ impl Cursor {
 
     // A level of two characters: column, then row.
     fn two(self, s: Split, code: &[u8]) -> Cursor
-        requires { ⌜ Room self s × (s .characters ≡ 2) × (self .place + 2 ≤ length (now code)) ⌝ }
-        ensures { λ m. ⌜ Moved self s (stepOf self s (now (code .entry))) m ⌝ }
+        requires { ⌜ PolarRoom self s × (s .characters ≡ 2) × (self .place + 2 ≤ length (now code)) ⌝ }
+        ensures { λ m. ⌜ Moved self s (polarStep self s (now (code .entry))) m ⌝ }
     {
         let at = self.place;
         let columns = self.columns(s);
@@ -211,8 +211,8 @@ impl Cursor {
 
     // A level of one character: 2·row + column; in a cap of three columns row + column.
     fn one(self, s: Split, code: &[u8]) -> Cursor
-        requires { ⌜ Room self s × (s .characters ≡ 1) × (self .place + 1 ≤ length (now code)) ⌝ }
-        ensures { λ m. ⌜ Moved self s (stepOf self s (now (code .entry))) m ⌝ }
+        requires { ⌜ PolarRoom self s × (s .characters ≡ 1) × (self .place + 1 ≤ length (now code)) ⌝ }
+        ensures { λ m. ⌜ Moved self s (polarStep self s (now (code .entry))) m ⌝ }
     {
         let at = self.place;
         let columns = self.columns(s);
@@ -228,8 +228,8 @@ impl Cursor {
 
     // Level k + 1, of two characters, where the code has it.
     fn pair(self, level: u32, k: u32, s: Split, code: &[u8]) -> Cursor
-        requires { ⌜ Ready level k s 2 (now code) self ⌝ }
-        ensures { λ r. ⌜ Reached (min (k + 1) level) (now (code .entry)) r × (r .north ≡ self .north) ⌝ }
+        requires { ⌜ PolarReady level k s 2 (now code) self ⌝ }
+        ensures { λ r. ⌜ PolarReached (min (k + 1) level) (now (code .entry)) r × (r .north ≡ self .north) ⌝ }
     {
         if level <= k {
             return self;
@@ -240,8 +240,8 @@ impl Cursor {
 
     // Level k + 1, of one character, where the code has it.
     fn single(self, level: u32, k: u32, s: Split, code: &[u8]) -> Cursor
-        requires { ⌜ Ready level k s 1 (now code) self ⌝ }
-        ensures { λ r. ⌜ Reached (min (k + 1) level) (now (code .entry)) r × (r .north ≡ self .north) ⌝ }
+        requires { ⌜ PolarReady level k s 1 (now code) self ⌝ }
+        ensures { λ r. ⌜ PolarReached (min (k + 1) level) (now (code .entry)) r × (r .north ≡ self .north) ⌝ }
     {
         if level <= k {
             return self;
@@ -276,7 +276,7 @@ impl Cursor {
     // What a reader of the level answers: the cell, or refusal 7.
     fn answer(self, level: u32) -> PlaneRead
         requires { ⌜ (self .good ≡ true → Whole self) ⌝ }
-        ensures { λ r. ⌜ planeRead r ≡ answerOf level (readOf self) ⌝ }
+        ensures { λ r. ⌜ planeRead r ≡ polarAnswer level (polarReading self) ⌝ }
     {
         let good = self.good;
         if good {

@@ -16,7 +16,7 @@ use Rattle.grid.proofs.Step.{eastward-below}
 use Rattle.grid.proofs.Poles.{named-only}
 use Rattle.grid.proofs.PlaneLaws.{index-unit}
 use Rattle.polar_write.specs.declared.Spot.{Spot}
-use Rattle.polar_write.specs.Spots.{spot, step, spotIn, beltCell, Polar, Begun}
+use Rattle.polar_write.specs.inner.Spots.{spot, step, spotIn, beltCell, Polar, Begun}
 use Rattle.polar_write.proofs.Written.{polar-on}
 
 -- the cell k has the square, and so it is its cell

@@ -20,7 +20,7 @@ use Rattle.grid.proofs.Step.{In}
 use Rattle.grid.proofs.Poles.{named, node-in}
 use Rattle.grid.proofs.PlaneLaws.{Good, good}
 use Rattle.polar_write.specs.declared.Spot.{Spot}
-use Rattle.polar_write.specs.Spots.{spotIn, stepOf}
+use Rattle.polar_write.specs.inner.Spots.{spotIn, spotStep}
 use Rattle.polar_write.proofs.Table.{told}
 use Rattle.polar_write.proofs.Loops.{arrive, arrive-more, code-split}
 use Rattle.polar_write.proofs.Moves.{Shaped, Moved, moves}
@@ -85,7 +85,7 @@ module _ (k : ℕ) (s : Square) (l : 2 ≤ k) (h : k < 10) (R : Reach k s) where
       }
 
   -- the square has moved on as the step says
-  pub spot-suc : spotAt (suc k) s ≡ stepOf (splitAt k) (spotAt k s) .rest
+  pub spot-suc : spotAt (suc k) s ≡ spotStep (splitAt k) (spotAt k s) .rest
   spot-suc = ap (λ n. spotIn n s) (node-suc k s h (moved .to) (moved .child)) ∙ moved .rest
 
 -- ---- the first two levels

@@ -8,7 +8,7 @@ use borrow.Author.Tests.{ltb-true, leb-true, eqb-true, le-ltb}
 use Rattle.grid.specs.declared.Split.{Split}
 use Rattle.grid.specs.Splits.{splitAt}
 use Rattle.grid.proofs.Cut.{allBelow, below}
-use Rattle.polar_write.specs.Spots.{ringWidth}
+use Rattle.polar_write.specs.inner.Spots.{ringWidth}
 
 -- a rule at each number from 2 to 9
 from-two : (f : ℕ → Bool) (k : ℕ) → allBelow (λ k. ltb k 2 || f k) 10 ≡ true → 2 ≤ k → k < 10 → f k ≡ true

@@ -12,7 +12,7 @@ ghost use Rattle.grid.specs.Units.{HALF, DISC, unit, eastward};
 ghost use Rattle.grid.specs.inner.Roads.{squareOf};
 ghost use Rattle.grid.specs.inner.Roads.{placeOf};
 ghost use Rattle.grid.specs.Plane.{codeOf};
-ghost use Rattle.polar_write.specs.Spots.{firstChars, capStep, stepOf, added, beltCell, Divides, Fits, Ready, Gone, Polar, Begun, Started, Writable};
+ghost use Rattle.polar_write.specs.inner.Spots.{firstChars, capStep, spotStep, added, beltCell, SpotDivides, SpotFits, SpotReady, Gone, Polar, Begun, SpotStarted, PolarWritable};
 use grid::Place;
 use grid::Split;
 
@@ -50,7 +50,7 @@ struct Step {
 
 // One level of a cap, e eastward and q from the pole: row 0 is the new cap, another row leaves it.
 fn divide_cap(s: Split, e: u32, q: u32) -> Step
-    requires { ⌜ Divides s ⌝ }
+    requires { ⌜ SpotDivides s ⌝ }
     ensures { λ r. ⌜ r ≡ capStep s e q (q / s .width) ⌝ }
 {
     let h = s.width;
@@ -84,8 +84,8 @@ fn divide_cap(s: Split, e: u32, q: u32) -> Step
 
 // One level, whatever its split.
 fn divide(s: Split, spot: Spot) -> Step
-    requires { ⌜ Divides s ⌝ }
-    ensures { λ r. ⌜ r ≡ stepOf s spot ⌝ }
+    requires { ⌜ SpotDivides s ⌝ }
+    ensures { λ r. ⌜ r ≡ spotStep s spot ⌝ }
 {
     let x = spot.x;
     let y = spot.y;
@@ -120,7 +120,7 @@ fn single(columns: u32, column: u32, row: u32) -> u32
 
 // Writes what place k of the table, level k + 1, adds to a code: nothing where the code ends before it.
 fn put_step(level: u32, k: u32, s: Split, d: Step, line: &mut [u8])
-    requires { ⌜ Fits level k s d (now line) ⌝ }
+    requires { ⌜ SpotFits level k s d (now line) ⌝ }
     ensures { λ _. ⌜ now (line .exit) ≡ sets (now (line .entry)) (placeOf s) (added level k s d) ⌝ }
 {
     if level <= k {
@@ -137,7 +137,7 @@ fn put_step(level: u32, k: u32, s: Split, d: Step, line: &mut [u8])
 
 // Goes down place k of the table, from 2 on: level k + 1, written where the code goes so far.
 fn next(level: u32, k: u32, s: Split, spot: Spot, line: &mut [u8]) -> Spot
-    requires { ⌜ Ready level k s spot (now line) ⌝ }
+    requires { ⌜ SpotReady level k s spot (now line) ⌝ }
     ensures { λ r. ⌜ Gone level k s spot (now (line .entry)) (now (line .exit)) r ⌝ }
 {
     let d = divide(s, spot);
@@ -239,8 +239,8 @@ fn begin(p: Place) -> Step
 
 // Writes the first two levels, as far as the code goes.
 fn start(level: u32, p: Place, line: &mut [u8]) -> Spot
-    requires { ⌜ Writable level p (now line) ⌝ }
-    ensures { λ r. ⌜ Started level p (now (line .entry)) (now (line .exit)) r ⌝ }
+    requires { ⌜ PolarWritable level p (now line) ⌝ }
+    ensures { λ r. ⌜ SpotStarted level p (now (line .entry)) (now (line .exit)) r ⌝ }
 {
     put_first(p.north, line);
     let d = begin(p);
@@ -250,7 +250,7 @@ fn start(level: u32, p: Place, line: &mut [u8]) -> Spot
 
 // The code of a level for a polar place, from the line's beginning on; the bytes after it stay.
 pub fn put(level: u32, p: Place, line: &mut [u8])
-    requires { ⌜ Writable level p (now line) ⌝ }
+    requires { ⌜ PolarWritable level p (now line) ⌝ }
     ensures { λ _. ⌜ now (line .exit) ≡ sets (now (line .entry)) 0 (codeOf level (squareOf p)) ⌝ }
 {
     let a = start(level, p, line);

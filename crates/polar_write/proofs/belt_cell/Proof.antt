@@ -1,7 +1,7 @@
 -- `polar_write::belt_cell` meets its contract. Assumes nothing.
 use borrow.Author.Needs.{needs}
 use borrow.Author.Tests.{lt-ltb, le-ltb}
-use Rattle.polar_write.specs.Spots.{beltCell}
+use Rattle.polar_write.specs.inner.Spots.{beltCell}
 use Rattle.polar_write.proofs.belt_cell.Statement.{statement}
 use Rattle.polar_write.proofs.belt_cell.Tie as tie
 

@@ -51,8 +51,8 @@ stepAs true t x y = capStep t x y (y / t .width)
 stepAs false t x y = step (t .columns) (x / t .width) (y / t .width) (spot false (x % t .width) (y % t .width))
 
 -- the step of a spot
-unfoldable pub stepOf : Split → Spot → Step
-stepOf t s = stepAs (s .cap) t (s .x) (s .y)
+unfoldable pub spotStep : Split → Spot → Step
+spotStep t s = stepAs (s .cap) t (s .x) (s .y)
 
 -- N000 or S000
 abbrev pub firstChars : Bool → List ℕ
@@ -63,13 +63,13 @@ unfoldable pub added : ℕ → ℕ → Split → Step → List ℕ
 added level k t s = cond (ltb k level) (map charOf (write (formOf (t .characters) (s .columns)) (s .column) (s .row))) []
 
 -- a level's divisions have divisors
-pub record Divides (t : Split) : Type 0 where
+pub record SpotDivides (t : Split) : Type 0 where
   pub wide : 0 < t .width
   pub round : 0 < t .ring
   pub parts : 0 < ringWidth t / t .width
 
 -- the digits of a step have characters, and the line has room for them
-pub record Fits (level k : ℕ) (t : Split) (s : Step) (line : List ℕ) : Type 0 where
+pub record SpotFits (level k : ℕ) (t : Split) (s : Step) (line : List ℕ) : Type 0 where
   pub room : k < level → t .length ≤ length line
   pub starts : t .characters ≤ t .length
   pub some : 1 ≤ t .characters
@@ -79,22 +79,22 @@ pub record Fits (level k : ℕ) (t : Split) (s : Step) (line : List ℕ) : Type 
   pub single : s .row ≤ 1 + 100 * (t .characters - 1)
 
 -- a spot in a cell h high, or in a cap
-pub record Stands (h : ℕ) (s : Spot) : Type 0 where
+pub record SpotStands (h : ℕ) (s : Spot) : Type 0 where
   pub across : s .x < cond (s .cap) TURN h
   pub along : s .y < h
 
 -- place k of the table, from 2 on, can be gone down
-pub record Ready (level k : ℕ) (t : Split) (s : Spot) (line : List ℕ) : Type 0 where
+pub record SpotReady (level k : ℕ) (t : Split) (s : Spot) (line : List ℕ) : Type 0 where
   pub level-low : 2 ≤ k
   pub level-high : k < 10
   pub split : t ≡ splitAt k
-  pub stands : Stands (splitAt (k - 1) .width) s
+  pub stands : SpotStands (splitAt (k - 1) .width) s
   pub room : k < level → t .length ≤ length line
 
 -- gone down: the spot is moved, and the level's characters are laid down
 pub record Gone (level k : ℕ) (t : Split) (s : Spot) (before after : List ℕ) (r : Spot) : Type 0 where
-  pub moved : r ≡ stepOf t s .rest
-  pub laid : after ≡ sets before (placeOf t) (added level k t (stepOf t s))
+  pub moved : r ≡ spotStep t s .rest
+  pub laid : after ≡ sets before (placeOf t) (added level k t (spotStep t s))
 
 -- a polar place
 pub record Polar (p : Place) : Type 0 where
@@ -114,13 +114,13 @@ pub record Begun (p : Place) (r : Step) : Type 0 where
   pub stands : r .rest ≡ spotIn (polarNode (p .north) (polarCellOf (squareOf p))) (squareOf p)
 
 -- what the writer is called with
-pub record Writable (level : ℕ) (p : Place) (line : List ℕ) : Type 0 where
+pub record PolarWritable (level : ℕ) (p : Place) (line : List ℕ) : Type 0 where
   pub level-low : 1 ≤ level
   pub level-high : level ≤ 10
   pub polar : Polar p
   pub room : splitAt (level - 1) .length ≤ length line
 
 -- the first two levels are written, as far as the level goes, and the place stands in its polar cell
-pub record Started (level : ℕ) (p : Place) (before after : List ℕ) (r : Spot) : Type 0 where
+pub record SpotStarted (level : ℕ) (p : Place) (before after : List ℕ) (r : Spot) : Type 0 where
   pub stands : r ≡ spotIn (polarNode (p .north) (polarCellOf (squareOf p))) (squareOf p)
   pub laid : after ≡ sets before 0 (codeOf (min 2 level) (squareOf p))
