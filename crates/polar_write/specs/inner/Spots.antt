@@ -12,10 +12,10 @@ use Rattle.grid.specs.declared.Split.{Split}
 use Rattle.grid.specs.declared.Place.{Place}
 use Rattle.grid.specs.Units.{TURN, HALF, QUARTER, POLAR, eastward, fromPole, Square}
 use Rattle.grid.specs.inner.Roads.{squareOf}
-use Rattle.grid.specs.Splits.{splitAt}
+use Rattle.grid.specs.Splits.{splitAt, polarCellAt}
 use Rattle.grid.specs.inner.Roads.{placeOf}
 use Rattle.grid.specs.Characters.{charOf}
-use Rattle.grid.specs.Plane.{Node, globe, pole, cell, cap, xIn, yIn, formOf, write, letter, polarCellOf, polarNode, codeOf}
+use Rattle.grid.specs.Plane.{Node, globe, pole, cell, cap, xIn, yIn, formOf, write, letter, polarHolds, polarCellOf, polarNode, codeOf}
 use Rattle.polar_write.specs.declared.Spot.{Spot}
 use Rattle.polar_write.specs.declared.Step.{Step}
 
@@ -102,10 +102,17 @@ pub record Polar (p : Place) : Type 0 where
   pub near : POLAR ≤ p .y
   pub y-in : p .y < QUARTER
 
--- the outer belt cell in the sixth of the turn that is i away from the prime meridian: east 10, 11, 20, west 30, 31, 21
-unfoldable pub beltCell : Bool → ℕ → ℕ
-beltCell true i = cond (ltb i 2) (4 + i) 8
-beltCell false i = cond (ltb i 2) (12 + i) 9
+-- the place lies in the polar cell k
+pub record Lies (k : ℕ) (p : Place) : Type 0 where
+  pub polar : Polar p
+  pub few : k < 16
+  pub holds : polarHolds (squareOf p) k ≡ true
+
+-- the place lies in the belt cell k of the outer row, or in the one between it and the pole, whose second digit is 2 more
+pub record LiesInColumn (k : ℕ) (p : Place) : Type 0 where
+  pub belt : 4 ≤ k
+  pub outer : p .y < polarCellAt 6 .low → Lies k p
+  pub inner : polarCellAt 6 .low ≤ p .y → Lies (k + 2) p
 
 -- the place's polar cell, by its two digits, and where the place stands in it
 pub record Begun (p : Place) (r : Step) : Type 0 where
