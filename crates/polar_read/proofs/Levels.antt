@@ -10,7 +10,7 @@ use lib.IntN.{ℤ}
 use lib.ListN.{length, drop}
 use borrow.Author.Tests.{eqb-true, leb-true, ltb-true}
 use Rattle.grid.specs.declared.Split.{Split}
-use Rattle.grid.specs.Units.{TURN}
+use Rattle.grid.specs.Units.{DEGREE, TURN, HALF, QUARTER}
 use Rattle.grid.specs.Tree.{Read, ok, bad, follow}
 use Rattle.grid.specs.declared.Cell.{Cell}
 use Rattle.grid.specs.Answers.{Answer}
@@ -52,16 +52,16 @@ good-whole ts c r g = go (c .cap) refl (c .disc) refl
         let k : GoodCell ts (frameOf c) (polarBox c) = rw p at g in
         let fx : c .x + c .w ≤ limX (frameOf c) = k .fit .wide in
         let fy : c .y + c .h ≤ limY (frameOf c) = k .fit .high in
-        let x : c .x + c .w ≤ 2654208000 = rw q at fx in
-        let y : c .y + c .h ≤ 7372800 = rw q at fy in
+        let x : c .x + c .w ≤ TURN = rw q at fx in
+        let y : c .y + c .h ≤ DEGREE = rw q at fy in
         let z = cell-positive ts (frameOf c) (polarBox c) k in
         record { some-w = z .0; some-h = z .1; high = omega arith; in-disc = λ e. x; in-belt = λ e. clash (cc); round = r }
     go false p false q =
         let k : GoodCell ts (frameOf c) (polarBox c) = rw p at g in
         let fx : c .x + c .w ≤ limX (frameOf c) = k .fit .wide in
         let fy : c .y + c .h ≤ limY (frameOf c) = k .fit .high in
-        let x : c .x + c .w ≤ 1327104000 = rw q at fx in
-        let y : c .y + c .h ≤ 663552000 = rw q at fy in
+        let x : c .x + c .w ≤ HALF = rw q at fx in
+        let y : c .y + c .h ≤ QUARTER = rw q at fy in
         let z = cell-positive ts (frameOf c) (polarBox c) k in
         record { some-w = z .0; some-h = z .1; high = y; in-disc = λ e. clash (cc); in-belt = λ e. x; round = r }
 

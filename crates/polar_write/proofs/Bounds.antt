@@ -8,7 +8,7 @@ use Prim.Native.Nat.{ℕ, zero, suc, _+_, _-_, _*_, _/_, _≤_, _<_}
 use native.Mathlib.Nat.{div-lt-iff-lt-mul, mul-comm}
 use native.Mathlib.Omega.{arith}
 use Rattle.grid.specs.declared.Split.{Split}
-use Rattle.grid.specs.Units.{Square}
+use Rattle.grid.specs.Units.{TURN, Square}
 use Rattle.grid.specs.Splits.{splitAt}
 use Rattle.grid.specs.inner.Roads.{placeOf}
 use Rattle.grid.specs.Plane.{Node, globe, pole, cell, cap, xIn, yIn}
@@ -46,10 +46,10 @@ module _ (h : ℕ) (t : Split) (T : Told h t) where
   row-below : (y : ℕ) → y < h → y / t .width < t .columns
   row-below y l = div-lt-iff-lt-mul (T .some-width) .1 (omega (arith, l, T .wide))
 
-  column-below : (e : ℕ) → e < 2654208000 → e / ringWidth t < t .ring
+  column-below : (e : ℕ) → e < TURN → e / ringWidth t < t .ring
   column-below e l = div-lt-iff-lt-mul (T .some-ring-width) .1 (omega (arith, l, T .round))
 
-  cap-small : (e q r : ℕ) → e < 2654208000 → r < t .columns → Small t (capStep t e q r)
+  cap-small : (e q r : ℕ) → e < TURN → r < t .columns → Small t (capStep t e q r)
   cap-small e q zero a b = record { column = omega arith; row = omega arith; single = omega arith }
   cap-small e q (suc r) a b =
       record { column = omega (arith, column-below e a, T .few-ring); row = omega (arith, T .few-columns); single = omega (arith, T .single) }
@@ -58,7 +58,7 @@ module _ (h : ℕ) (t : Split) (T : Told h t) where
   unfolding spotStep
   step-small s i = go (s .cap) (i .across)
     where
-      go : (b : Bool) → s .x < cond b 2654208000 h → Small t (stepAs b t (s .x) (s .y))
+      go : (b : Bool) → s .x < cond b TURN h → Small t (stepAs b t (s .x) (s .y))
       go true a = cap-small (s .x) (s .y) _ a (row-below (s .y) (i .along))
       go false a =
           let c : s .x / t .width < t .columns = row-below (s .x) a in

@@ -10,9 +10,8 @@ use borrow.Author.Tests.{le-ltb}
 use Rattle.grid.specs.declared.Split.{Split}
 use Rattle.grid.specs.declared.Place.{Place}
 use Rattle.grid.specs.Units.{Square}
-use Rattle.grid.specs.inner.Roads.{squareOf}
 use Rattle.grid.specs.Splits.{first, splitAt}
-use Rattle.grid.specs.inner.Roads.{placeOf}
+use Rattle.grid.specs.inner.Roads.{squareOf, placeOf}
 use Rattle.grid.specs.Characters.{charOf}
 use Rattle.grid.specs.Plane.{Node, globe, letter, globeDigits, polarCellOf, formOf, write, digitsOf, codeOf}
 use Rattle.grid.proofs.Poles.{named}

@@ -9,10 +9,9 @@ use lib.ListN.{length}
 use lib.Seq.{sets, length-sets}
 use Rattle.grid.specs.declared.Split.{Split}
 use Rattle.grid.specs.declared.Place.{Place}
-use Rattle.grid.specs.Units.{index, Square, OnGlobe}
-use Rattle.grid.specs.inner.Roads.{squareOf}
+use Rattle.grid.specs.Units.{POLAR, index, Square, OnGlobe}
 use Rattle.grid.specs.Splits.{splitAt}
-use Rattle.grid.specs.inner.Roads.{placeOf}
+use Rattle.grid.specs.inner.Roads.{squareOf, placeOf}
 use Rattle.grid.specs.Characters.{charOf}
 use Rattle.grid.specs.Plane.{Node, polarCellOf, polarNode, formOf, write, codeOf}
 use Rattle.grid.proofs.Lists.{sets-next}
@@ -38,7 +37,7 @@ pub record Done (level k : ℕ) (p : Place) (before line : List ℕ) (r : Spot) 
   pub text : line ≡ sets before 0 (codeOf (min k level) (squareOf p))
   pub spot : r ≡ spotAt k (squareOf p)
 
-pub polar-on : (p : Place) → Polar p → OnGlobe (squareOf p) × (648806400 ≤ index (squareOf p .latitude))
+pub polar-on : (p : Place) → Polar p → OnGlobe (squareOf p) × (POLAR ≤ index (squareOf p .latitude))
 polar-on p h = (on-globe p (h .x-in) (h .y-in), rw (index-unit (p .north) (p .y)) (h .near))
 
 -- the line is as long as it was

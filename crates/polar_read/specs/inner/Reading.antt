@@ -12,7 +12,7 @@ use Rattle.grid.specs.Units.{TURN}
 use Rattle.grid.specs.Characters.{digitOf}
 use Rattle.grid.specs.Tree.{Read, ok, bad, guard, shift, follow}
 use Rattle.grid.specs.Answers.{Answer, accepted, refused, wrongCharacter}
-use Rattle.grid.specs.Splits.{splits, splitAt}
+use Rattle.grid.specs.Splits.{first, splits, splitAt}
 use Rattle.grid.specs.Plane.{
   Frame,
   belt,
@@ -29,6 +29,7 @@ use Rattle.grid.specs.Plane.{
   sub,
   ringNode,
   allowed,
+  poleWidth,
   poleHeight,
   childOf,
   plane,
@@ -57,7 +58,7 @@ polarReading c = cond (c .good) (ok (nodeOf c)) (bad (c .place))
 -- N000 or S000, seen as a cap of two degrees
 abbrev pub startOf : Bool → Cursor
 startOf n =
-    record { good = true; place = 4; north = n; cap = true; disc = true; east = true; x = 0; w = TURN; y = 0; h = poleHeight }
+    record { good = true; place = first .length; north = n; cap = true; disc = true; east = true; x = 0; w = poleWidth; y = 0; h = poleHeight }
 
 -- a cell of the disc that goes all round the pole
 pub record AllRound (c : Cursor) : Type 0 where

@@ -20,7 +20,7 @@ pub record OfLevel (level : ℕ) (w : List ℕ) : Type 0 where
 -- a good cursor, whose cell lies on the globe
 pub record PolarRoom (c : Cursor) (s : Split) : Type 0 where
   pub good : c .good ≡ true
-  pub near : c .place + s .characters ≤ 20
+  pub near : c .place + s .characters ≤ splitAt 9 .length
   pub wide : c .x + c .w ≤ TURN
   pub high : c .y + c .h ≤ QUARTER
   pub round : Round c
