@@ -13,8 +13,8 @@ use Rattle.grid.specs.Plane.{allowed, Part, Node, cell, disc, sub, round, ringN
 use Rattle.grid.proofs.Cut.{clash, cut-end}
 use Rattle.grid.proofs.Step.{allowed-of}
 use Rattle.polar_read.specs.declared.Cursor.{Cursor}
-use Rattle.polar_read.specs.Reading.{nodeOf, HasRead, columnsOf, inmostOf, divided, childIn, settledOf, Moved}
-use Rattle.polar_read.specs.Room.{Room, ChildRoom}
+use Rattle.polar_read.specs.inner.Reading.{nodeOf, HasRead, columnsOf, inmostOf, divided, polarChild, settledOf, Moved}
+use Rattle.polar_read.specs.inner.Room.{PolarRoom, ChildRoom}
 
 -- a cursor that has read r has read what equals it
 pub reads-as : {n : Bool} {at : ℕ} {r q : Read Node} {c : Cursor} → r ≡ q → HasRead n at r c → HasRead n at q c
@@ -37,14 +37,14 @@ module _ (c : Cursor) (s : Split) {columns : ℕ} (e : columns ≡ columnsOf c s
   pub a-child : {t : Bool} → i < columns → j < s .inward → t ≡ inmostOf c j → cond t (eqb i 0) true ≡ allowed (c .cap) (divided c s) i j
   a-child l h q = rw (← e, lt-ltb i columns l, lt-ltb j (s .inward) h, q) (sym (last-test (c .cap) i j))
 
-pub child-room : (c : Cursor) (s : Split) {columns : ℕ} (i j : ℕ) {t : Bool} → Room c s → columns ≡ columnsOf c s → t ≡ allowed (c .cap) (divided c s) i j → t ≡ true → ChildRoom c s columns i j
+pub child-room : (c : Cursor) (s : Split) {columns : ℕ} (i j : ℕ) {t : Bool} → PolarRoom c s → columns ≡ columnsOf c s → t ≡ allowed (c .cap) (divided c s) i j → t ≡ true → ChildRoom c s columns i j
 child-room c s i j r e q h =
     let a = allowed-of (c .cap) (divided c s) i j (sym q ∙ h) in
     record { room = r; counted = e; column = omega (arith, e, a .col); row = a .row }
 
 -- the child where there is one, and else the place
 module _ (c : Cursor) (s : Split) (i j at : ℕ) {t : Bool} (q : t ≡ allowed (c .cap) (divided c s) i j) {m : Cursor} where
-  pub settled-there : t ≡ true → Moved c s (ok (childIn c s i j)) m → Moved c s (settledOf c s i j at) m
+  pub settled-there : t ≡ true → Moved c s (ok (polarChild c s i j)) m → Moved c s (settledOf c s i j at) m
   settled-there h r = reads-as (rw (← q, h) refl) r
 
   pub settled-not : t ≡ false → Moved c s (bad at) m → Moved c s (settledOf c s i j at) m
@@ -82,23 +82,23 @@ module _ (c : Cursor) (s : Split) {columns i j : ℕ} (r : ChildRoom c s columns
         h = c .h / s .inward;
       }
 
-  narrowed-node : t ≡ true → nodeOf narrowed ≡ childIn c s i j
+  narrowed-node : t ≡ true → nodeOf narrowed ≡ polarChild c s i j
   narrowed-node e = go (c .cap) refl (sym q ∙ e)
     where
-      go : (b : Bool) → c .cap ≡ b → cond b (eqb j 0) false ≡ true → nodeOf narrowed ≡ childIn c s i j
+      go : (b : Bool) → c .cap ≡ b → cond b (eqb j 0) false ≡ true → nodeOf narrowed ≡ polarChild c s i j
       go true p z = rw (p, eqb-true j 0 z) refl
       go false p z = clash (cc)
 
-  parted-node : t ≡ false → nodeOf parted ≡ childIn c s i j
+  parted-node : t ≡ false → nodeOf parted ≡ polarChild c s i j
   parted-node e = go (c .cap) refl (sym q ∙ e) (r .counted)
     where
-      go : (b : Bool) → c .cap ≡ b → cond b (eqb j 0) false ≡ false → columns ≡ cond b (s .ring) (s .columns) → nodeOf parted ≡ childIn c s i j
+      go : (b : Bool) → c .cap ≡ b → cond b (eqb j 0) false ≡ false → columns ≡ cond b (s .ring) (s .columns) → nodeOf parted ≡ polarChild c s i j
       go true p z k =
           let a = r .room .round p in
           rw (p, k, ring-node (c .north) _ (c .h) i j (eqb-false j 0 z), a .in-disc, a .west, a .wide, a .inner) refl
       go false p z k = rw (p, k) refl
 
-  pub child-inmost : t ≡ true → Moved c s (ok (childIn c s i j)) narrowed
+  pub child-inmost : t ≡ true → Moved c s (ok (polarChild c s i j)) narrowed
   child-inmost e =
       record {
         means = rw (r .room .good) (ap ok (narrowed-node e));
@@ -107,6 +107,6 @@ module _ (c : Cursor) (s : Split) {columns i j : ℕ} (r : ChildRoom c s columns
         round = λ g. (let a = r .room .round g in record { in-disc = a .in-disc; west = a .west; wide = a .wide; inner = a .inner });
       }
 
-  pub child-other : t ≡ false → Moved c s (ok (childIn c s i j)) parted
+  pub child-other : t ≡ false → Moved c s (ok (polarChild c s i j)) parted
   child-other e =
       record { means = rw (r .room .good) (ap ok (parted-node e)); placed = λ g. refl; sided = refl; round = λ g. clash (cc) }

@@ -10,7 +10,7 @@ use lib.IntN.{ℤ}
 use lib.ListN.{length, drop}
 use borrow.Author.Tests.{eqb-true, leb-true, ltb-true}
 use Rattle.grid.specs.declared.Split.{Split}
-use Rattle.grid.specs.Units.{TURN}
+use Rattle.grid.specs.Units.{DEGREE, TURN, HALF, QUARTER}
 use Rattle.grid.specs.Tree.{Read, ok, bad, follow}
 use Rattle.grid.specs.declared.Cell.{Cell}
 use Rattle.grid.specs.Answers.{Answer}
@@ -22,8 +22,8 @@ use Rattle.grid.proofs.Cut.{clash, and-true}
 use Rattle.grid.proofs.Lengths.{adds, grows}
 use Rattle.grid.proofs.PlaneLaws.{Good, GoodCell, GoodCap, cell-positive, cap-positive, limX, limY}
 use Rattle.polar_read.specs.declared.Cursor.{Cursor}
-use Rattle.polar_read.specs.Reading.{frameOf, boxOf, nodeOf, readOf, startOf, Round, HasRead, stepOf, soFar, Reached, answerOf}
-use Rattle.polar_read.specs.Room.{OfLevel, Room, Ready, Whole}
+use Rattle.polar_read.specs.inner.Reading.{frameOf, polarBox, nodeOf, polarReading, startOf, Round, HasRead, polarStep, soFar, PolarReached, polarAnswer}
+use Rattle.polar_read.specs.inner.Room.{OfLevel, PolarRoom, PolarReady, Whole}
 use Rattle.polar_read.proofs.SoFar.{so-far-on, so-far-bad, so-far-good}
 
 -- a level's characters follow those before
@@ -49,25 +49,25 @@ good-whole ts c r g = go (c .cap) refl (c .disc) refl
           round = r;
         }
     go false p true q =
-        let k : GoodCell ts (frameOf c) (boxOf c) = rw p at g in
+        let k : GoodCell ts (frameOf c) (polarBox c) = rw p at g in
         let fx : c .x + c .w ≤ limX (frameOf c) = k .fit .wide in
         let fy : c .y + c .h ≤ limY (frameOf c) = k .fit .high in
-        let x : c .x + c .w ≤ 2654208000 = rw q at fx in
-        let y : c .y + c .h ≤ 7372800 = rw q at fy in
-        let z = cell-positive ts (frameOf c) (boxOf c) k in
+        let x : c .x + c .w ≤ TURN = rw q at fx in
+        let y : c .y + c .h ≤ DEGREE = rw q at fy in
+        let z = cell-positive ts (frameOf c) (polarBox c) k in
         record { some-w = z .0; some-h = z .1; high = omega arith; in-disc = λ e. x; in-belt = λ e. clash (cc); round = r }
     go false p false q =
-        let k : GoodCell ts (frameOf c) (boxOf c) = rw p at g in
+        let k : GoodCell ts (frameOf c) (polarBox c) = rw p at g in
         let fx : c .x + c .w ≤ limX (frameOf c) = k .fit .wide in
         let fy : c .y + c .h ≤ limY (frameOf c) = k .fit .high in
-        let x : c .x + c .w ≤ 1327104000 = rw q at fx in
-        let y : c .y + c .h ≤ 663552000 = rw q at fy in
-        let z = cell-positive ts (frameOf c) (boxOf c) k in
+        let x : c .x + c .w ≤ HALF = rw q at fx in
+        let y : c .y + c .h ≤ QUARTER = rw q at fy in
+        let z = cell-positive ts (frameOf c) (polarBox c) k in
         record { some-w = z .0; some-h = z .1; high = y; in-disc = λ e. clash (cc); in-belt = λ e. x; round = r }
 
-pub whole : (l : ℕ) (w : List ℕ) (c : Cursor) → 1 ≤ l → l ≤ 10 → Reached l w c → c .good ≡ true → Whole c
+pub whole : (l : ℕ) (w : List ℕ) (c : Cursor) → 1 ≤ l → l ≤ 10 → PolarReached l w c → c .good ≡ true → Whole c
 whole l w c a b r g =
-    let e : readOf c ≡ ok (nodeOf c) = rw g refl in
+    let e : polarReading c ≡ ok (nodeOf c) = rw g refl in
     good-whole (drop l splits) c (r .round) (so-far-good (c .north) l w a b (sym (r .means) ∙ e))
 
 wide-of : (c : Cursor) → Whole c → c .x + c .w ≤ TURN
@@ -79,24 +79,24 @@ wide-of c o = go (c .disc) refl
 
 -- ---- one level more
 
-module _ {level k n : ℕ} {s : Split} {w : List ℕ} {c : Cursor} (r : Ready level k s n w c) where
+module _ {level k n : ℕ} {s : Split} {w : List ℕ} {c : Cursor} (r : PolarReady level k s n w c) where
   -- the code has no such level
-  pub level-past : level ≤ k → Reached (min (k + 1) level) w c
+  pub level-past : level ≤ k → PolarReached (min (k + 1) level) w c
   level-past h =
       let e : min (k + 1) level ≡ min k level = omega arith in
-      subst (λ (l : ℕ). Reached l w c) (sym e) (r .so-far)
+      subst (λ (l : ℕ). PolarReached l w c) (sym e) (r .so-far)
 
   module _ (h : k < level) where
-    at-level : Reached k w c
-    at-level = let e : min k level ≡ k = omega arith in subst (λ (l : ℕ). Reached l w c) e (r .so-far)
+    at-level : PolarReached k w c
+    at-level = let e : min k level ≡ k = omega arith in subst (λ (l : ℕ). PolarReached l w c) e (r .so-far)
 
-    to-next : {m : Cursor} → Reached (k + 1) w m → Reached (min (k + 1) level) w m
-    to-next {m} q = let e : min (k + 1) level ≡ k + 1 = omega arith in subst (λ (l : ℕ). Reached l w m) (sym e) q
+    to-next : {m : Cursor} → PolarReached (k + 1) w m → PolarReached (min (k + 1) level) w m
+    to-next {m} q = let e : min (k + 1) level ≡ k + 1 = omega arith in subst (λ (l : ℕ). PolarReached l w m) (sym e) q
 
     -- a character before was not allowed
-    pub level-bad : c .good ≡ false → Reached (min (k + 1) level) w c
+    pub level-bad : c .good ≡ false → PolarReached (min (k + 1) level) w c
     level-bad g =
-        let e : readOf c ≡ bad (c .place) = rw g refl in
+        let e : polarReading c ≡ bad (c .place) = rw g refl in
         let b : soFar (c .north) k w ≡ bad (c .place) = sym (at-level .means) ∙ e in
         to-next
         (record {
@@ -110,7 +110,7 @@ module _ {level k n : ℕ} {s : Split} {w : List ℕ} {c : Cursor} (r : Ready le
       starts : c .place + s .characters ≡ splitAt k .length
       starts = rw (at-level .placed g, r .table) (follows k (r .later) (r .last))
 
-      pub level-room : Room c s
+      pub level-room : PolarRoom c s
       level-room =
           let o = whole k w c (r .later) (omega (arith, r .last)) at-level g in
           let l : splitAt k .length ≤ 20 = grows k 9 (omega (arith, r .last)) (omega arith) in
@@ -121,10 +121,10 @@ module _ {level k n : ℕ} {s : Split} {w : List ℕ} {c : Cursor} (r : Ready le
           let l : splitAt k .length ≤ splitAt (level - 1) .length = grows k (level - 1) (omega arith) (omega (arith, r .long .most)) in
           omega (arith, starts, r .size, r .long .long)
 
-      pub level-read : {m : Cursor} → HasRead (c .north) (c .place + s .characters) (stepOf c s w) m → Reached (min (k + 1) level) w m × (m .north ≡ c .north)
-      unfolding stepOf
+      pub level-read : {m : Cursor} → HasRead (c .north) (c .place + s .characters) (polarStep c s w) m → PolarReached (min (k + 1) level) w m × (m .north ≡ c .north)
+      unfolding polarStep
       level-read {m} q =
-          let e : readOf c ≡ ok (nodeOf c) = rw g refl in
+          let e : polarReading c ≡ ok (nodeOf c) = rw g refl in
           let b : soFar (c .north) k w ≡ ok (nodeOf c) = sym (at-level .means) ∙ e in
           let z : k + 1 - 1 ≡ k = omega arith in (
             to-next (record {
@@ -138,7 +138,7 @@ module _ {level k n : ℕ} {s : Split} {w : List ℕ} {c : Cursor} (r : Ready le
 
 -- what a step asks, at a level that a literal names
 pub ready : {level n : ℕ} {s : Split} {w : List ℕ} {c : Cursor} (k : ℕ) → (leb 1 k && (ltb k 10 && eqb (splitAt k .characters) n)) ≡ true
-    → OfLevel level w → s ≡ splitAt k → Reached (min k level) w c → Ready level k s n w c
+    → OfLevel level w → s ≡ splitAt k → PolarReached (min k level) w c → PolarReady level k s n w c
 ready {n = n} k t a e r =
     let u = and-true (leb 1 k) _ t in
     let v = and-true (ltb k 10) _ (u .1) in
@@ -172,12 +172,12 @@ module _ (l : ℕ) (c : Cursor) (o : Whole c) {a b a' b' : ℤ} where
 
 -- ---- the answer
 
-answer-as : (l : ℕ) (r : Read Node) → unfold planeCodes in (answerOf l r ≡ answer planeCodes l r)
+answer-as : (l : ℕ) (r : Read Node) → unfold planeCodes in (polarAnswer l r ≡ answer planeCodes l r)
 unfolding planeCodes
 answer-as l (ok m) = refl
 answer-as l (bad p) = refl
 
-rest-is : (l : ℕ) (n : Bool) (w : List ℕ) → answerOf l (soFar n l w) ≡ laterRead l (pole n) w
+rest-is : (l : ℕ) (n : Bool) (w : List ℕ) → polarAnswer l (soFar n l w) ≡ laterRead l (pole n) w
 unfolding laterRead planeCodes soFar
 rest-is l n w = answer-as l (soFar n l w)
 
@@ -196,7 +196,7 @@ module _ {n : Bool} {c : Cursor} (e : c ≡ startOf n) where
         round = λ g. record { in-disc = refl; west = refl; wide = refl; inner = refl };
       })
 
-  pub start-answers : {l : ℕ} (w : List ℕ) {a : Answer Cell} → l ≡ 1 → a ≡ answerOf l (readOf c) → a ≡ laterRead l (pole n) w
+  pub start-answers : {l : ℕ} (w : List ℕ) {a : Answer Cell} → l ≡ 1 → a ≡ polarAnswer l (polarReading c) → a ≡ laterRead l (pole n) w
   unfolding soFar follow
   start-answers {l} w z q = q ∙ rw (e, z) (rest-is 1 n w)
 
@@ -206,15 +206,15 @@ long-two {level} a f =
     omega (arith, a .long)
 
 -- the last cursor's answer is the whole reading's
-pub answers : (l : ℕ) (w : List ℕ) {n : Bool} {c : Cursor} {a : Answer Cell} → a ≡ answerOf l (readOf c) → Reached (min 10 l) w c → l ≤ 10 → c .north ≡ n → a ≡ laterRead l (pole n) w
+pub answers : (l : ℕ) (w : List ℕ) {n : Bool} {c : Cursor} {a : Answer Cell} → a ≡ polarAnswer l (polarReading c) → PolarReached (min 10 l) w c → l ≤ 10 → c .north ≡ n → a ≡ laterRead l (pole n) w
 answers l w {n} {c} e r h q =
     let z : min 10 l ≡ l = omega arith in
-    let m : readOf c ≡ soFar n l w = r .means ∙ ap (λ (j : ℕ). soFar (c .north) j w) z ∙ ap (λ (b : Bool). soFar b l w) q in
-    e ∙ ap (answerOf l) m ∙ rest-is l n w
+    let m : polarReading c ≡ soFar n l w = r .means ∙ ap (λ (j : ℕ). soFar (c .north) j w) z ∙ ap (λ (b : Bool). soFar b l w) q in
+    e ∙ ap (polarAnswer l) m ∙ rest-is l n w
 
-pub last-whole : {level : ℕ} (w : List ℕ) {c : Cursor} → OfLevel level w → Reached (min 10 level) w c → c .good ≡ true → Whole c
+pub last-whole : {level : ℕ} (w : List ℕ) {c : Cursor} → OfLevel level w → PolarReached (min 10 level) w c → c .good ≡ true → Whole c
 last-whole {level} w {c} a r g = whole (min 10 level) w c (omega (arith, a .some)) (omega arith) r g
 
 -- level 2 is one of the code's
-pub level-two : {level : ℕ} {w : List ℕ} {c : Cursor} → OfLevel level w → (level ≡ 1 → ⊥) → Reached 2 w c → Reached (min 2 level) w c
-level-two {level} {w} {c} a f r = let e : min 2 level ≡ 2 = omega (arith, a .some) in subst (λ (l : ℕ). Reached l w c) (sym e) r
+pub level-two : {level : ℕ} {w : List ℕ} {c : Cursor} → OfLevel level w → (level ≡ 1 → ⊥) → PolarReached 2 w c → PolarReached (min 2 level) w c
+level-two {level} {w} {c} a f r = let e : min 2 level ≡ 2 = omega (arith, a .some) in subst (λ (l : ℕ). PolarReached l w c) (sym e) r

@@ -3,56 +3,57 @@
 use mathlib.Core.Path.{_≡_, refl, sym, _∙_, ap}
 use mathlib.Core.Bool.{Bool, true, false}
 use mathlib.Core.List.{List}
-use Prim.Native.Nat.{ℕ, _+_, _-_, _*_, _≤_, _<_}
+use Prim.Native.Nat.{ℕ, _+_, _-_, _*_, _/_, _≤_, _<_}
 use native.Mathlib.Omega.{arith}
 use lib.Dec.{ltb}
 use lib.ListN.{length, getD}
 use borrow.Author.Tests.{lt-ltb, le-ltb, ne-eqb}
 use Rattle.grid.specs.declared.PolarCell.{PolarCell}
+use Rattle.grid.specs.declared.Split.{Split}
+use Rattle.grid.specs.Units.{TURN, HALF, QUARTER, DISC}
 use Rattle.grid.specs.Characters.{digitOf}
 use Rattle.grid.specs.Tree.{Read, ok, bad, guard, follow}
-use Rattle.grid.specs.Splits.{polarCellAt}
-use Rattle.grid.specs.Plane.{Node, pole, polarNode}
+use Rattle.grid.specs.Splits.{first, second, polarCellAt}
+use Rattle.grid.specs.Plane.{Node, pole, SIXTH, polarNode}
 use Rattle.grid.proofs.Cut.{clash}
 use Rattle.grid.proofs.Poles.{placed}
 use Rattle.polar_read.specs.declared.Cursor.{Cursor}
-use Rattle.polar_read.specs.Reading.{startOf, HasRead, soFar, Reached}
+use Rattle.polar_read.specs.inner.Reading.{startOf, HasRead, soFar, PolarReached}
 use Rattle.polar_read.proofs.Step.{two-digits, shift-guard}
 use Rattle.polar_read.proofs.SoFar.{so-far-on}
 
-module _ {n : Bool} {b : Cursor} (e : b ≡ startOf n) {k : ℕ} {p : PolarCell} (q : p ≡ polarCellAt k) where
+module _ {n : Bool} {b : Cursor} (e : b ≡ startOf n) {k : ℕ} {p : PolarCell} (q : p ≡ polarCellAt k) {t : Split} (u : t ≡ second) where
   pub sixteen-cap : k ≡ 0
-      → HasRead n 6 (ok (polarNode n k)) (record { good = b .good; place = 6; north = b .north; cap = b .cap; disc = b .disc; east = b .east; x = b .x; w = b .w; y = b .y; h = 3686400 })
+      → HasRead n (second .length) (ok (polarNode n k)) (record { good = b .good; place = t .length; north = b .north; cap = b .cap; disc = b .disc; east = b .east; x = b .x; w = b .w; y = b .y; h = b .h / t .inward })
   sixteen-cap z =
-      rw (e, z)
+      rw (e, z, u)
       (record { means = refl; placed = λ g. refl; sided = refl; round = λ g. record { in-disc = refl; west = refl; wide = refl; inner = refl } })
 
   pub sixteen-disc : ¬ (k ≡ 0) → k < 4
-      → HasRead n 6 (ok (polarNode n k)) (record { good = b .good; place = 6; north = b .north; cap = false; disc = b .disc; east = b .east; x = p .west; w = 884736000; y = 663552000 - p .low - 3686400; h = 3686400 })
+      → HasRead n (second .length) (ok (polarNode n k)) (record { good = b .good; place = t .length; north = b .north; cap = false; disc = b .disc; east = b .east; x = p .west; w = TURN / t .ring; y = QUARTER - p .low - b .h / t .inward; h = b .h / t .inward })
   sixteen-disc z h =
-      rw (e, q)
+      rw (e, q, u)
       (record { means = rw (ne-eqb k 0 z, lt-ltb k 4 h) refl; placed = λ g. refl; sided = refl; round = λ g. clash (cc) })
 
-  pub sixteen-east : ¬ (k ≡ 0) → 4 ≤ k → p .west < 1327104000
-      → HasRead n 6 (ok (polarNode n k)) (record { good = b .good; place = 6; north = b .north; cap = false; disc = false; east = b .east; x = p .west; w = 442368000; y = p .low; h = 3686400 })
+  pub sixteen-east : ¬ (k ≡ 0) → 4 ≤ k → p .west < HALF
+      → HasRead n (second .length) (ok (polarNode n k)) (record { good = b .good; place = t .length; north = b .north; cap = false; disc = false; east = b .east; x = p .west; w = SIXTH; y = p .low; h = b .h / t .inward })
   sixteen-east z h l =
-      let t : ltb (polarCellAt k .west) 1327104000 ≡ true = lt-ltb _ _ (rw q at l) in
-      rw (e, q)
-      (record { means = rw (ne-eqb k 0 z, le-ltb k 4 h, t) refl; placed = λ g. refl; sided = refl; round = λ g. clash (cc) })
+      let v : ltb (polarCellAt k .west) HALF ≡ true = lt-ltb _ _ (rw q at l) in
+      rw (e, q, u)
+      (record { means = rw (ne-eqb k 0 z, le-ltb k 4 h, v) refl; placed = λ g. refl; sided = refl; round = λ g. clash (cc) })
 
-  pub sixteen-west : ¬ (k ≡ 0) → 4 ≤ k → 1327104000 ≤ p .west
-      → HasRead n 6 (ok (polarNode n k)) (record { good = b .good; place = 6; north = b .north; cap = false; disc = false; east = false; x = 2654208000 - p .west - 442368000; w = 442368000; y = p .low; h = 3686400 })
+  pub sixteen-west : ¬ (k ≡ 0) → 4 ≤ k → HALF ≤ p .west
+      → HasRead n (second .length) (ok (polarNode n k)) (record { good = b .good; place = t .length; north = b .north; cap = false; disc = false; east = false; x = TURN - p .west - SIXTH; w = SIXTH; y = p .low; h = b .h / t .inward })
   sixteen-west z h l =
-      let t : ltb (polarCellAt k .west) 1327104000 ≡ false = le-ltb _ _ (rw q at l) in
-      rw (e, q)
-      (record { means = rw (ne-eqb k 0 z, le-ltb k 4 h, t) refl; placed = λ g. refl; sided = refl; round = λ g. clash (cc) })
+      let v : ltb (polarCellAt k .west) HALF ≡ false = le-ltb _ _ (rw q at l) in
+      rw (e, q, u)
+      (record { means = rw (ne-eqb k 0 z, le-ltb k 4 h, v) refl; placed = λ g. refl; sided = refl; round = λ g. clash (cc) })
 
-module _ {k : ℕ} {p : PolarCell} (q : p ≡ polarCellAt k) (h : k < 16) where
-  pub in-disc : ¬ (k ≡ 0) → k < 4 → p .low ≡ 656179200
-  in-disc z l = rw q (placed k h .in-disc l (omega arith) .0)
+  pub in-disc : k < 16 → ¬ (k ≡ 0) → k < 4 → p .low + b .h / t .inward ≤ QUARTER
+  in-disc h z l = let f : polarCellAt k .low ≡ DISC = placed k h .in-disc l (omega arith) .0 in rw (e, q, u) (omega (arith, f))
 
-  pub in-belt : 4 ≤ k → p .west + 442368000 ≤ 2654208000
-  in-belt l = rw q (placed k h .in-west l)
+pub in-belt : {k : ℕ} {p : PolarCell} → p ≡ polarCellAt k → k < 16 → 4 ≤ k → p .west + SIXTH ≤ TURN
+in-belt {k} q h l = rw q (placed k h .in-west l)
 
 -- ---- the two characters
 
@@ -61,19 +62,22 @@ unfolding soFar follow
 first-level n w = refl
 
 -- the cursor of level 2
-reached : (n : Bool) (w : List ℕ) {r : Read Node} {c : Cursor} → r ≡ soFar n 2 w → HasRead n 6 r c → Reached 2 w c × (c .north ≡ n)
+reached : (n : Bool) (w : List ℕ) {r : Read Node} {c : Cursor} → r ≡ soFar n 2 w → HasRead n (second .length) r c → PolarReached 2 w c × (c .north ≡ n)
 reached n w e t =
     (record { means = t .means ∙ e ∙ ap (λ (b : Bool). soFar b 2 w) (sym (t .sided)); placed = t .placed; sided = refl; round = t .round }, t .sided)
 
-module _ (n : Bool) (w : List ℕ) {a : ℕ} (l : 6 ≤ length w) (ea : a ≡ digitOf (getD w 4 0)) where
-  both : {b : ℕ} → b ≡ digitOf (getD w 5 0) → soFar n 2 w ≡ guard 4 (ltb a 4) (guard 5 (ltb b 4) (ok (polarNode n (4 * a + b))))
-  both {b} eb = so-far-on n 1 w (omega arith) (omega arith) (first-level n w) ∙ rw (two-digits w 4 l, ← ea, ← eb, shift-guard, shift-guard) refl
+module _ (n : Bool) (w : List ℕ) {at a : ℕ} (z : at ≡ first .length) (l : second .length ≤ length w) (ea : a ≡ digitOf (getD w at 0)) where
+  both : {b : ℕ} → b ≡ digitOf (getD w (at + 1) 0) → soFar n 2 w ≡ guard at (ltb a 4) (guard (at + 1) (ltb b 4) (ok (polarNode n (4 * a + b))))
+  both {b} eb =
+      let fa : a ≡ digitOf (getD w 4 0) = rw z at ea in
+      let fb : b ≡ digitOf (getD w 5 0) = rw z at eb in
+      rw z (so-far-on n 1 w (omega arith) (omega arith) (first-level n w) ∙ rw (two-digits w 4 l, ← fa, ← fb, shift-guard, shift-guard) refl)
 
-  pub second-first : {c : Cursor} → 4 ≤ a → HasRead n 6 (bad 4) c → Reached 2 w c × (c .north ≡ n)
+  pub second-first : {c : Cursor} → 4 ≤ a → HasRead n (second .length) (bad at) c → PolarReached 2 w c × (c .north ≡ n)
   second-first h t = reached n w (sym (both refl ∙ rw (le-ltb a 4 h) refl)) t
 
-  pub second-second : {b : ℕ} {c : Cursor} → b ≡ digitOf (getD w 5 0) → a < 4 → 4 ≤ b → HasRead n 6 (bad 5) c → Reached 2 w c × (c .north ≡ n)
+  pub second-second : {b : ℕ} {c : Cursor} → b ≡ digitOf (getD w (at + 1) 0) → a < 4 → 4 ≤ b → HasRead n (second .length) (bad (at + 1)) c → PolarReached 2 w c × (c .north ≡ n)
   second-second {b} eb h i t = reached n w (sym (both eb ∙ rw (lt-ltb a 4 h, le-ltb b 4 i) refl)) t
 
-  pub second-both : {b : ℕ} {c : Cursor} → b ≡ digitOf (getD w 5 0) → a < 4 → b < 4 → HasRead n 6 (ok (polarNode n (4 * a + b))) c → Reached 2 w c × (c .north ≡ n)
+  pub second-both : {b : ℕ} {c : Cursor} → b ≡ digitOf (getD w (at + 1) 0) → a < 4 → b < 4 → HasRead n (second .length) (ok (polarNode n (4 * a + b))) c → PolarReached 2 w c × (c .north ≡ n)
   second-both {b} eb h i t = reached n w (sym (both eb ∙ rw (lt-ltb a 4 h, lt-ltb b 4 i) refl)) t

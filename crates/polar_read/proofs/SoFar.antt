@@ -19,7 +19,7 @@ use Rattle.grid.proofs.Cut.{clash, below}
 use Rattle.grid.proofs.Lists.{drop-map}
 use Rattle.grid.proofs.Laws.{total, shift-shift}
 use Rattle.grid.proofs.PlaneLaws.{Good, fitsPole, laws}
-use Rattle.polar_read.specs.Reading.{soFar}
+use Rattle.polar_read.specs.inner.Reading.{soFar}
 use Rattle.polar_read.proofs.Follow.{follow-split, follow-on}
 
 -- ---- the table: lengths add up, and from N000 or S000 on every level divides evenly

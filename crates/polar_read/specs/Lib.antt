@@ -1,3 +1,1 @@
--- What the contracts of this crate cite.
-pub mod Reading
-pub mod Room
+pub mod inner

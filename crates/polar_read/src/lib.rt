@@ -1,44 +1,49 @@
 // Reading a polar plane code (document 01, "The poles") on from its first four characters, N000 or S000.
 // The reading place is a cursor, a value: each level read hands back the next one.
-// What a cursor means, and what was read, stands in specs/Reading.antt; what the steps ask for in specs/Room.antt.
+// What a cursor means, and what was read, stands in specs/inner/Reading.antt; what the steps ask for in specs/inner/Room.antt.
 
 ghost use mathlib.Core.Path.{_≡_};
 ghost use mathlib.Core.Bool.{true};
 ghost use Prim.Native.Nat.{ℕ, _+_, _≤_, _<_, min};
 ghost use lib.ListN.{length};
+ghost use Rattle.grid.specs.Units.{TURN, QUARTER};
+ghost use Rattle.grid.specs.Splits.{first, second};
 ghost use Rattle.grid.specs.Tree.{ok, bad};
 ghost use Rattle.grid.specs.Answers.{planeRead};
 ghost use Rattle.grid.specs.Plane.{pole, allowed, longitudeAt, leastFromPole, cellAt, polarNode};
 ghost use Rattle.grid.specs.inner.Roads.{laterRead};
-ghost use Rattle.polar_read.specs.Reading.{nodeOf, readOf, startOf, Round, HasRead, Moved, Reached, answerOf};
-ghost use Rattle.polar_read.specs.Reading.{columnsOf, inmostOf, divided, childIn, settledOf, stepOf};
-ghost use Rattle.polar_read.specs.Room.{OfLevel, Whole, Room, ChildRoom, Ready};
+ghost use Rattle.polar_read.specs.inner.Reading.{nodeOf, polarReading, startOf, Round, HasRead, Moved, PolarReached, polarAnswer};
+ghost use Rattle.polar_read.specs.inner.Reading.{columnsOf, inmostOf, divided, polarChild, settledOf, polarStep};
+ghost use Rattle.polar_read.specs.inner.Room.{OfLevel, Whole, PolarRoom, ChildRoom, PolarReady};
 use grid::Cell;
 use grid::PlaneRead;
 use grid::Refusal;
 use grid::Split;
 
+// 60°, the width of a belt cell.
+const SIXTH: u32 = 60 * grid::DEGREE;
+
 // The longitude e units eastward of 0, in its range.
 fn longitude_at(e: u32) -> i32
-    requires { ⌜ e < 2654208000 ⌝ }
+    requires { ⌜ e < TURN ⌝ }
     ensures { λ r. ⌜ r ≡ longitudeAt e ⌝ }
 {
-    if e < 1327104000 {
+    if e < grid::HALF {
         grid::number_on(true, e)
     } else {
-        grid::number_on(false, 2654207999 - e)
+        grid::number_on(false, grid::TURN - 1 - e)
     }
 }
 
 // The least of the n latitudes whose distances from a pole are from q on.
 fn least_from_pole(north: bool, q: u32, n: u32) -> i32
-    requires { ⌜ (0 < n) × (q + n ≤ 663552000) ⌝ }
+    requires { ⌜ (0 < n) × (q + n ≤ QUARTER) ⌝ }
     ensures { λ r. ⌜ r ≡ leastFromPole north q n ⌝ }
 {
     if north {
-        grid::number_on(true, 663552000 - (q + n))
+        grid::number_on(true, grid::QUARTER - (q + n))
     } else {
-        grid::number_on(false, 663551999 - q)
+        grid::number_on(false, grid::QUARTER - 1 - q)
     }
 }
 
@@ -66,17 +71,18 @@ impl Cursor {
     fn start(north: bool) -> Cursor
         ensures { λ r. ⌜ r ≡ startOf north ⌝ }
     {
+        let s = grid::split_of(0);
         Cursor {
             good: true,
-            place: 4,
+            place: s.length,
             north,
             cap: true,
             disc: true,
             east: true,
             x: 0,
-            w: 2654208000,
+            w: grid::TURN / s.ring,
             y: 0,
-            h: 14745600,
+            h: 2 * grid::DEGREE / s.inward,
         }
     }
 
@@ -93,12 +99,13 @@ impl Cursor {
     // The polar cell k of level 2: 0 is the cap, 1 to 3 lie in the disc, the others in the belt.
     fn polar(self, k: u32) -> Cursor
         requires { ⌜ k < 16 ⌝ }
-        ensures { λ r. ⌜ HasRead (self .north) 6 (ok (polarNode (self .north) k)) r ⌝ }
+        ensures { λ r. ⌜ HasRead (self .north) (second .length) (ok (polarNode (self .north) k)) r ⌝ }
     {
         let p = grid::polar_cell(k as usize);
+        let s = grid::split_of(1);
         let mut next = Cursor::start(self.north);
-        next.place = 6;
-        next.h = 3686400;
+        next.place = s.length;
+        next.h = next.h / s.inward;
         if k == 0 {
             return next;
         }
@@ -106,32 +113,33 @@ impl Cursor {
         next.x = p.west;
         next.y = p.low;
         if k < 4 {
-            next.w = 884736000;
-            next.y = 663552000 - p.low - 3686400;
+            next.w = grid::TURN / s.ring;
+            next.y = grid::QUARTER - p.low - next.h;
             return next;
         }
         next.disc = false;
-        next.w = 442368000;
-        if p.west < 1327104000 {
+        next.w = SIXTH;
+        if p.west < grid::HALF {
             return next;
         }
         next.east = false;
-        next.x = 2654208000 - p.west - 442368000;
+        next.x = grid::TURN - p.west - SIXTH;
         next
     }
 
     // Level 2: two digits below 4 name one of the sixteen polar cells.
     fn second(self, code: &[u8]) -> Cursor
-        requires { ⌜ Round self × (6 ≤ length (now code)) ⌝ }
-        ensures { λ r. ⌜ Reached 2 (now (code .entry)) r × (r .north ≡ self .north) ⌝ }
+        requires { ⌜ Round self × (self .place ≡ first .length) × (second .length ≤ length (now code)) ⌝ }
+        ensures { λ r. ⌜ PolarReached 2 (now (code .entry)) r × (r .north ≡ self .north) ⌝ }
     {
-        let a = grid::digit(code[4]);
+        let at = self.place;
+        let a = grid::digit(code[at]);
         if 4 <= a {
-            return self.stopped(4);
+            return self.stopped(at);
         }
-        let b = grid::digit(code[5]);
+        let b = grid::digit(code[at + 1]);
         if 4 <= b {
-            return self.stopped(5);
+            return self.stopped(at + 1);
         }
         self.polar(4 * a + b)
     }
@@ -167,7 +175,7 @@ impl Cursor {
     // The child in column c and row r.
     fn child(mut self, s: Split, columns: u32, c: u32, r: u32) -> Cursor
         requires { ⌜ ChildRoom self s columns c r ⌝ }
-        ensures { λ m. ⌜ Moved self s (ok (childIn self s c r)) m ⌝ }
+        ensures { λ m. ⌜ Moved self s (ok (polarChild self s c r)) m ⌝ }
     {
         let inmost = self.inmost(r);
         self.place = self.place + s.characters;
@@ -184,7 +192,7 @@ impl Cursor {
 
     // The child in column c and row r, if there is one; else the character at a place is not allowed.
     fn settled(self, s: Split, columns: u32, c: u32, r: u32, at: usize) -> Cursor
-        requires { ⌜ Room self s × (columns ≡ columnsOf self s) ⌝ }
+        requires { ⌜ PolarRoom self s × (columns ≡ columnsOf self s) ⌝ }
         ensures { λ m. ⌜ Moved self s (settledOf self s c r at) m ⌝ }
     {
         if self.allows(s, columns, c, r) {
@@ -196,8 +204,8 @@ impl Cursor {
 
     // A level of two characters: column, then row.
     fn two(self, s: Split, code: &[u8]) -> Cursor
-        requires { ⌜ Room self s × (s .characters ≡ 2) × (self .place + 2 ≤ length (now code)) ⌝ }
-        ensures { λ m. ⌜ Moved self s (stepOf self s (now (code .entry))) m ⌝ }
+        requires { ⌜ PolarRoom self s × (s .characters ≡ 2) × (self .place + 2 ≤ length (now code)) ⌝ }
+        ensures { λ m. ⌜ Moved self s (polarStep self s (now (code .entry))) m ⌝ }
     {
         let at = self.place;
         let columns = self.columns(s);
@@ -211,8 +219,8 @@ impl Cursor {
 
     // A level of one character: 2·row + column; in a cap of three columns row + column.
     fn one(self, s: Split, code: &[u8]) -> Cursor
-        requires { ⌜ Room self s × (s .characters ≡ 1) × (self .place + 1 ≤ length (now code)) ⌝ }
-        ensures { λ m. ⌜ Moved self s (stepOf self s (now (code .entry))) m ⌝ }
+        requires { ⌜ PolarRoom self s × (s .characters ≡ 1) × (self .place + 1 ≤ length (now code)) ⌝ }
+        ensures { λ m. ⌜ Moved self s (polarStep self s (now (code .entry))) m ⌝ }
     {
         let at = self.place;
         let columns = self.columns(s);
@@ -228,8 +236,8 @@ impl Cursor {
 
     // Level k + 1, of two characters, where the code has it.
     fn pair(self, level: u32, k: u32, s: Split, code: &[u8]) -> Cursor
-        requires { ⌜ Ready level k s 2 (now code) self ⌝ }
-        ensures { λ r. ⌜ Reached (min (k + 1) level) (now (code .entry)) r × (r .north ≡ self .north) ⌝ }
+        requires { ⌜ PolarReady level k s 2 (now code) self ⌝ }
+        ensures { λ r. ⌜ PolarReached (min (k + 1) level) (now (code .entry)) r × (r .north ≡ self .north) ⌝ }
     {
         if level <= k {
             return self;
@@ -240,8 +248,8 @@ impl Cursor {
 
     // Level k + 1, of one character, where the code has it.
     fn single(self, level: u32, k: u32, s: Split, code: &[u8]) -> Cursor
-        requires { ⌜ Ready level k s 1 (now code) self ⌝ }
-        ensures { λ r. ⌜ Reached (min (k + 1) level) (now (code .entry)) r × (r .north ≡ self .north) ⌝ }
+        requires { ⌜ PolarReady level k s 1 (now code) self ⌝ }
+        ensures { λ r. ⌜ PolarReached (min (k + 1) level) (now (code .entry)) r × (r .north ≡ self .north) ⌝ }
     {
         if level <= k {
             return self;
@@ -276,7 +284,7 @@ impl Cursor {
     // What a reader of the level answers: the cell, or refusal 7.
     fn answer(self, level: u32) -> PlaneRead
         requires { ⌜ (self .good ≡ true → Whole self) ⌝ }
-        ensures { λ r. ⌜ planeRead r ≡ answerOf level (readOf self) ⌝ }
+        ensures { λ r. ⌜ planeRead r ≡ polarAnswer level (polarReading self) ⌝ }
     {
         let good = self.good;
         if good {

@@ -1,161 +1,145 @@
--- The polar cell of a place by its digits, and where the place stands in it: the belt's cells and the disc's, tested over the table.
+-- The polar cell of a place by its digits, and where the place stands in it; and the belt cells that the edges of the table give it.
 -- Assumes nothing.
-use mathlib.Core.Path.{_≡_, refl, sym, _∙_, ap, subst}
-use mathlib.Core.Bool.{Bool, true, false, cond}
-use Prim.Native.Nat.{ℕ, _+_, _-_, _*_, _/_, _%_, _≤_, _<_}
+use mathlib.Core.Path.{_≡_, refl, sym, subst}
+use mathlib.Core.Bool.{Bool, true, false, _&&_}
+use Prim.Native.Nat.{ℕ, _+_, _-_, _/_, _%_, _≤_, _<_}
 use native.Mathlib.Omega.{arith}
 use lib.Dec.{ltb, leb, eqb}
 use borrow.Author.Tests.{ltb-true, leb-true, eqb-true, lt-ltb, le-ltb, le-leb, ne-eqb}
 use Rattle.grid.specs.declared.Place.{Place}
-use Rattle.grid.specs.Units.{TURN, HALF, index, unit, eastward, Square}
+use Rattle.grid.specs.declared.PolarCell.{PolarCell}
+use Rattle.grid.specs.Units.{TURN, HALF, QUARTER, POLAR, DISC, index, unit, eastward, Square}
 use Rattle.grid.specs.inner.Roads.{squareOf}
-use Rattle.grid.specs.Splits.{polarCellAt}
-use Rattle.grid.specs.Plane.{cell, belt, SIXTH, polarWidth, polarCellOf, polarNode, beltBox}
-use Rattle.grid.proofs.Cut.{and-make, allBelow, below}
-use Rattle.grid.proofs.Step.{eastward-below}
-use Rattle.grid.proofs.Poles.{named-only}
-use Rattle.grid.proofs.PlaneLaws.{index-unit}
+use Rattle.grid.specs.Splits.{second, polarCellAt}
+use Rattle.grid.specs.Plane.{Node, cell, belt, disc, SIXTH, polarWidth, polarHeight, polarCellOf, polarNode, beltBox, discBox}
+use Rattle.grid.proofs.Cut.{and-make, and-true}
+use Rattle.grid.proofs.Step.{In, InCell, eastward-below}
+use Rattle.grid.proofs.Poles.{placed, named-only, node-in}
+use Rattle.grid.proofs.PlaneLaws.{index-unit, side-unit}
 use Rattle.polar_write.specs.declared.Spot.{Spot}
-use Rattle.polar_write.specs.Spots.{spot, step, spotIn, beltCell, Polar, Begun}
+use Rattle.polar_write.specs.inner.Spots.{spot, step, spotIn, Polar, Lies, LiesInColumn, Begun}
 use Rattle.polar_write.proofs.Written.{polar-on}
 
--- the cell k has the square, and so it is its cell
-module _ (p : Place) (P : Polar p) (k : ℕ) (few : k < 16) where
+-- ---- the cell k has the place, and so it is its cell
+
+module _ {k : ℕ} {p : Place} (L : Lies k p) where
   abbrev s : Square
   s = squareOf p
 
-  pub begun : {c r : ℕ} {q : Spot} → polarCellAt k .west ≤ eastward (s .longitude) → eastward (s .longitude) < polarCellAt k .west + polarWidth k
-      → polarCellAt k .low ≤ p .y → p .y < polarCellAt k .low + 3686400
-      → c ≡ k / 4 → r ≡ k % 4 → q ≡ spotIn (polarNode (p .north) k) s → Begun p (step 4 c r q)
-  begun a b d e x y z =
-      let i : index (s .latitude) ≡ p .y = index-unit (p .north) (p .y) in
-      let n : polarCellOf s ≡ k = named-only s (polar-on p P .0) (polar-on p P .1) k few
-      (and-make _ _ (and-make _ _ (le-leb _ _ a) (lt-ltb _ _ b))
-      (and-make _ _ (le-leb _ _ (subst (λ (v : ℕ). polarCellAt k .low ≤ v) (sym i) d)) (lt-ltb _ _ (subst (λ (v : ℕ). v < polarCellAt k .low + 3686400) (sym i) e)))) in
-      record { first = rw n x; second = rw n y; stands = rw n z }
+  is-named : polarCellOf s ≡ k
+  is-named = named-only s (polar-on p (L .polar) .0) (polar-on p (L .polar) .1) k (L .few) (L .holds)
 
--- ---- the belt
+  inside : In (polarNode (p .north) k) s
+  inside = node-in (p .north) s k (polar-on p (L .polar) .0) (side-unit (p .north) (p .y)) (L .few) (L .holds)
 
--- a rule of both sides, the three sixths of each and the two halves
-belt-rule : (f : Bool → ℕ → ℕ → Bool) → allBelow (λ i. allBelow (f true i) 2) 3 ≡ true → allBelow (λ i. allBelow (f false i) 2) 3 ≡ true
-    → (e : Bool) (i j : ℕ) → i < 3 → j < 2 → f e i j ≡ true
-belt-rule f a b true i j h k = below (f true i) 2 j (below (λ i. allBelow (f true i) 2) 3 i a h) k
-belt-rule f a b false i j h k = below (f false i) 2 j (below (λ i. allBelow (f false i) 2) 3 i b h) k
+  begun : {q : Spot} → q ≡ spotIn (polarNode (p .north) k) s → Begun p (step 4 (k / 4) (k % 4) q)
+  begun z = record { first = rw is-named refl; second = rw is-named refl; stands = rw is-named z }
 
-abbrev number : Bool → ℕ → ℕ → ℕ
-number e i j = beltCell e i + 2 * j
+  -- a belt cell
+  module _ (m : 4 ≤ k) {c : PolarCell} (e : c ≡ polarCellAt k) where
+    belt-node : polarNode (p .north) k ≡ cell (belt (p .north) (ltb (c .west) HALF)) (beltBox (c .west) (c .low))
+    belt-node = rw (ne-eqb k 0 (λ z. omega arith), le-ltb k 4 m, e) refl
 
--- the west edge of the sixth i
-abbrev westOf : Bool → ℕ → ℕ
-westOf true i = i * 442368000
-westOf false i = 2211840000 - i * 442368000
+    in-box : InCell (belt (p .north) (ltb (c .west) HALF)) (beltBox (c .west) (c .low)) s
+    in-box = subst (λ (n : Node). In n s) belt-node inside
 
-record InBelt (e : Bool) (i j : ℕ) : Type 0 where
-  few : number e i j < 16
-  more : 4 ≤ number e i j
-  west : polarCellAt (number e i j) .west ≡ westOf e i
-  low : polarCellAt (number e i j) .low ≡ 648806400 + j * 3686400
-  corner : cond (ltb (polarCellAt (number e i j) .west) HALF) (polarCellAt (number e i j) .west) (TURN - polarCellAt (number e i j) .west - SIXTH) ≡ i * 442368000
+    pub belt-edge : c .west + SIXTH ≤ TURN
+    belt-edge = rw e (placed k (L .few) .in-west m)
 
-in-belt : (e : Bool) (i j : ℕ) → i < 3 → j < 2 → InBelt e i j
-unfolding beltCell
-in-belt e i j h k =
-    record {
-      few = ltb-true _ _ (belt-rule (λ e i j. ltb (number e i j) 16) refl refl e i j h k);
-      more = leb-true _ _ (belt-rule (λ e i j. leb 4 (number e i j)) refl refl e i j h k);
-      west = eqb-true _ _ (belt-rule (λ e i j. eqb (polarCellAt (number e i j) .west) (westOf e i)) refl refl e i j h k);
-      low = eqb-true _ _ (belt-rule (λ e i j. eqb (polarCellAt (number e i j) .low) (648806400 + j * 3686400)) refl refl e i j h k);
-      corner = eqb-true _ _ (belt-rule (λ e i j. eqb (cond (ltb (polarCellAt (number e i j) .west) HALF) (polarCellAt (number e i j) .west) (TURN - polarCellAt (number e i j) .west - SIXTH)) (i * 442368000)) refl refl e i j h k);
-    }
+    pub belt-x : beltBox (c .west) 0 .x ≤ p .x
+    belt-x = rw (index-unit (p .east) (p .x)) at (in-box .inside .xl)
 
-in-sixth : (e : Bool) (x : ℕ) → x < 1327104000 → (westOf e (x / 442368000) ≤ eastward (unit e x)) × (eastward (unit e x) < westOf e (x / 442368000) + 442368000)
-in-sixth true x h = (omega arith, omega arith)
-in-sixth false x h = (omega arith, omega arith)
+    pub belt-y : c .low ≤ p .y
+    belt-y = rw (index-unit (p .north) (p .y)) at (in-box .inside .yl)
 
-module _ (p : Place) (P : Polar p) (out : p .y < 656179200) where
-  abbrev i : ℕ
-  i = p .x / 442368000
+    pub belt-begun : {x h : ℕ} → x ≡ beltBox (c .west) 0 .x → h ≡ polarHeight → Begun p (step 4 (k / 4) (k % 4) (spot false ((p .x - x) / (SIXTH / h)) (p .y - c .low)))
+    unfolding spotIn
+    belt-begun f g = begun (rw (belt-node, index-unit (p .east) (p .x), index-unit (p .north) (p .y), f, g) refl)
 
-  abbrev j : ℕ
-  j = (p .y - 648806400) / 3686400
+  -- another cell of the disc
+  module _ (m : 0 < k) (l : k < 4) {c : PolarCell} (e : c ≡ polarCellAt k) where
+    disc-node : polarNode (p .north) k ≡ cell (disc (p .north)) (discBox (c .west) (TURN / second .ring) (c .low))
+    disc-node = rw (ne-eqb k 0 (λ z. omega arith), lt-ltb k 4 l, e) refl
 
-  abbrev k : ℕ
-  k = number (p .east) i j
+    in-ring : InCell (disc (p .north)) (discBox (c .west) (TURN / second .ring) (c .low)) s
+    in-ring = subst (λ (n : Node). In n s) disc-node inside
 
-  cell-of : InBelt (p .east) i j
-  cell-of =
-      let hx : p .x < 1327104000 = P .x-in in
-      in-belt (p .east) i j (omega arith) (omega arith)
+    pub disc-x : {x : ℕ} → x ≡ eastward (unit (p .east) (p .x)) → c .west ≤ x
+    disc-x f = rw f (in-ring .inside .xl)
 
-  pub belt-few : {n : ℕ} → n ≡ beltCell (p .east) i → n + 2 * j < 16
-  belt-few e = rw e (cell-of .few)
+    pub disc-low : c .low ≡ DISC
+    disc-low = rw e (placed k (L .few) .in-disc l m .0)
 
-  belt-node : polarNode (p .north) k ≡ cell (belt (p .north) (ltb (polarCellAt k .west) HALF)) (beltBox (polarCellAt k .west) (polarCellAt k .low))
-  belt-node =
-      let m : 4 ≤ k = cell-of .more in
-      rw (ne-eqb k 0 (λ z. omega arith), le-ltb k 4 m) refl
+    pub disc-y : p .y < c .low + polarHeight
+    disc-y =
+        let y : QUARTER - c .low - polarHeight ≤ QUARTER - 1 - p .y = rw (index-unit (p .north) (p .y)) at (in-ring .inside .yl) in
+        omega (arith, y, disc-low, L .polar .y-in)
 
-  belt-stands : spot false (p .x % 442368000 / 120) ((p .y - 648806400) % 3686400) ≡ spotIn (polarNode (p .north) k) (squareOf p)
-  unfolding spotIn
-  belt-stands =
-      let near : 648806400 ≤ p .y = P .near in
-      let x : p .x % 442368000 ≡ p .x - i * 442368000 = omega arith in
-      let y : (p .y - 648806400) % 3686400 ≡ p .y - (648806400 + j * 3686400) = omega arith in
-      rw (belt-node, cell-of .corner, cell-of .low, index-unit (p .east) (p .x), index-unit (p .north) (p .y), x, y) refl
+    pub disc-begun : {x w h : ℕ} → x ≡ eastward (unit (p .east) (p .x)) → w ≡ TURN / second .ring → h ≡ polarHeight
+        → Begun p (step 4 (k / 4) (k % 4) (spot false ((x - c .west) / (w / h)) (c .low + h - 1 - p .y)))
+    unfolding spotIn
+    disc-begun f z g =
+        let y : DISC + polarHeight - 1 - p .y ≡ QUARTER - 1 - p .y - (QUARTER - DISC - polarHeight) = omega arith in
+        begun (rw (disc-node, index-unit (p .north) (p .y), f, z, g, disc-low, y) refl)
 
-  pub belt-begun : {n : ℕ} → n ≡ beltCell (p .east) i
-      → Begun p (step 4 ((n + 2 * j) / 4) ((n + 2 * j) % 4) (spot false (p .x % 442368000 / 120) ((p .y - 648806400) % 3686400)))
-  belt-begun {n} e =
-      let C = cell-of in
-      let near : 648806400 ≤ p .y = P .near in
-      let m : 4 ≤ k = C .more in
-      let w : polarWidth k ≡ 442368000 = rw (ne-eqb k 0 (λ z. omega arith), le-ltb k 4 m) refl in
-      let b = in-sixth (p .east) (p .x) (P .x-in) in
-      rw e
-      (begun p P k (C .few) (subst (λ (z : ℕ). z ≤ eastward (unit (p .east) (p .x))) (sym (C .west)) (b .0))
-      (subst (λ (z : ℕ). eastward (unit (p .east) (p .x)) < z) (sym (ap (λ (z : ℕ). z + polarWidth k) (C .west) ∙ ap (λ (z : ℕ). westOf (p .east) i + z) w)) (b .1))
-      (omega (arith, C .low)) (omega (arith, C .low)) refl refl belt-stands)
+pub cap-begun : {p : Place} {x : ℕ} → Lies 0 p → x ≡ eastward (unit (p .east) (p .x)) → Begun p (step 4 0 0 (spot true x (QUARTER - 1 - p .y)))
+unfolding spotIn
+cap-begun {p} L f = begun L (rw (index-unit (p .north) (p .y), f) refl)
 
--- ---- the disc
+-- ---- the edges give the cell
 
--- the cell with the digits 0 and 1 + j
-record InDisc (j : ℕ) : Type 0 where
-  west : polarCellAt (1 + j) .west ≡ j * 884736000
-  low : polarCellAt (1 + j) .low ≡ 656179200
-  width : polarWidth (1 + j) ≡ 884736000
+module _ {p : Place} (P : Polar p) where
+  abbrev e : ℕ
+  e = eastward (unit (p .east) (p .x))
 
-in-disc : (j : ℕ) → j < 3 → InDisc j
-in-disc j h =
-    record {
-      west = eqb-true _ _ (below (λ j. eqb (polarCellAt (1 + j) .west) (j * 884736000)) 3 j refl h);
-      low = eqb-true _ _ (below (λ j. eqb (polarCellAt (1 + j) .low) 656179200) 3 j refl h);
-      width = eqb-true _ _ (below (λ j. eqb (polarWidth (1 + j)) 884736000) 3 j refl h);
-    }
+  pub lies : (k : ℕ) → ltb k 16 ≡ true → polarCellAt k .west ≤ e → e < polarCellAt k .west + polarWidth k → polarCellAt k .low ≤ p .y → p .y < polarCellAt k .low + polarHeight → Lies k p
+  lies k few a b c d =
+      record {
+        polar = P;
+        few = ltb-true k 16 few;
+        holds =
+            rw (index-unit (p .north) (p .y))
+            (and-make _ _ (and-make _ _ (le-leb _ _ a) (lt-ltb _ _ b)) (and-make _ _ (le-leb _ _ c) (lt-ltb _ _ d)));
+      }
 
-module _ (p : Place) (P : Polar p) {e : ℕ} (E : e ≡ eastward (unit (p .east) (p .x))) where
-  turn : e < 2654208000
-  turn = subst (λ (z : ℕ). z < 2654208000) (sym E) (eastward-below (squareOf p) (polar-on p P .0))
+  turn : e < TURN
+  turn = eastward-below (squareOf p) (polar-on p P .0)
 
-  pub cap-begun : 663551999 - p .y < 3686400 → Begun p (step 4 0 0 (spot true e (663551999 - p .y)))
-  unfolding spotIn
-  cap-begun h =
-      let hy : p .y < 663552000 = P .y-in in
-      begun p P 0 (omega arith) (omega arith) (subst (λ (z : ℕ). z < 2654208000) E turn) (omega arith) (omega arith) refl refl (rw (index-unit (p .north) (p .y), E) refl)
+  pub cap-lies : polarCellAt 0 .low ≤ p .y → Lies 0 p
+  cap-lies h = lies 0 refl (omega arith) turn h (omega (arith, P .y-in))
 
-  abbrev third : ℕ
-  third = e / 884736000
+  pub disc-lies : (k : ℕ) → ltb k 16 ≡ true → polarWidth k ≡ TURN / second .ring → polarCellAt k .low ≡ DISC → DISC ≤ p .y → p .y < polarCellAt 0 .low → {x : ℕ} → x ≡ e → polarCellAt k .west ≤ x → (x < TURN → x < polarCellAt k .west + TURN / second .ring) → Lies k p
+  disc-lies k few w l a b z f g = lies k few (omega (arith, z, f)) (omega (arith, z, w, g (omega (arith, z, turn)))) (omega (arith, l, a)) (omega (arith, l, b))
 
-  disc-stands : spot false (e % 884736000 / 240) (663551999 - p .y - 3686400) ≡ spotIn (polarNode (p .north) (1 + third)) (squareOf p)
-  unfolding spotIn
-  disc-stands =
-      let D = in-disc third (omega (arith, turn)) in
-      let x : e % 884736000 ≡ e - third * 884736000 = omega arith in
-      rw (ne-eqb (1 + third) 0 (λ z. omega arith), lt-ltb (1 + third) 4 (omega (arith, turn)), D .west, D .low, index-unit (p .north) (p .y), ← E, x) refl
+  -- k is a belt cell of the outer row, and k + 2 lies between it and the pole
+  abbrev twoRows : ℕ → Bool
+  twoRows k = (leb 4 k && ltb k 14) && (eqb (polarCellAt (k + 2) .west) (polarCellAt k .west) && (eqb (polarCellAt k .low) POLAR && eqb (polarCellAt (k + 2) .low) (polarCellAt 6 .low)))
 
-  pub disc-begun : 656179200 ≤ p .y → 3686400 ≤ 663551999 - p .y → Begun p (step 4 0 (1 + third) (spot false (e % 884736000 / 240) (663551999 - p .y - 3686400)))
-  disc-begun l h =
-      let D = in-disc third (omega (arith, turn)) in
-      let u : e < third * 884736000 + 884736000 = omega arith in
-      begun p P (1 + third) (omega (arith, turn)) (subst (λ (z : ℕ). polarCellAt (1 + third) .west ≤ z) E (omega (arith, D .west)))
-      (subst (λ (z : ℕ). z < polarCellAt (1 + third) .west + polarWidth (1 + third)) E (omega (arith, D .west, D .width)))
-      (omega (arith, D .low)) (omega (arith, D .low)) (omega (arith, turn)) (omega (arith, turn)) disc-stands
+  belt-lies : (k : ℕ) → 4 ≤ k → k < 16 → polarCellAt k .west ≤ e → e < polarCellAt k .west + SIXTH → polarCellAt k .low ≤ p .y → p .y < polarCellAt k .low + polarHeight → Lies k p
+  belt-lies k m l a b c d =
+      let w : polarWidth k ≡ SIXTH = rw (ne-eqb k 0 (λ z. omega arith), le-ltb k 4 m) refl in
+      lies k (lt-ltb k 16 l) a (omega (arith, b, w)) c d
+
+  module _ (out : p .y < DISC) (k : ℕ) (t : twoRows k ≡ true) where
+    column : polarCellAt k .west ≤ e → e < polarCellAt k .west + SIXTH → LiesInColumn k p
+    column a b =
+        let u = and-true (leb 4 k && ltb k 14) _ t in
+        let v = and-true (leb 4 k) _ (u .0) in
+        let w = and-true (eqb (polarCellAt (k + 2) .west) (polarCellAt k .west)) _ (u .1) in
+        let x = and-true (eqb (polarCellAt k .low) POLAR) _ (w .1) in
+        let m : 4 ≤ k = leb-true 4 k (v .0) in
+        let l : k < 14 = ltb-true k 14 (v .1) in
+        let we : polarCellAt (k + 2) .west ≡ polarCellAt k .west = eqb-true _ _ (w .0) in
+        let lo : polarCellAt k .low ≡ POLAR = eqb-true _ _ (x .0) in
+        let li : polarCellAt (k + 2) .low ≡ polarCellAt 6 .low = eqb-true _ _ (x .1) in
+        record {
+          belt = m;
+          outer = λ h. belt-lies k m (omega arith) a b (omega (arith, lo, P .near)) (omega (arith, lo, h));
+          inner = λ h. belt-lies (k + 2) (omega arith) (omega arith) (omega (arith, we, a)) (omega (arith, we, b)) (omega (arith, li, h)) (omega (arith, li, out));
+        }
+
+    pub east-column : p .east ≡ true → polarCellAt k .west ≤ p .x → p .x < polarCellAt k .west + SIXTH → LiesInColumn k p
+    east-column h a b = let z : e ≡ p .x = rw h refl in column (omega (arith, z, a)) (omega (arith, z, b))
+
+    pub west-column : p .east ≡ false → p .x + polarCellAt k .west < TURN → TURN ≤ p .x + polarCellAt k .west + SIXTH → LiesInColumn k p
+    west-column h a b = let z : e ≡ TURN - 1 - p .x = rw h refl in column (omega (arith, z, a)) (omega (arith, z, b))

@@ -13,7 +13,7 @@ use Rattle.grid.specs.Plane.{Frame, xIn, yIn, Box, Node, globe, pole, cell, cap
 use Rattle.grid.proofs.Cut.{ok-inj}
 use Rattle.grid.proofs.Step.{In, InCell, InCap, Allowed, Exact, read-write, boxOf, cell-read, cell-into, cap-here, eastward-below}
 use Rattle.grid.proofs.PlaneLaws.{Good, GoodCell, GoodCap, cell-exact, cap-exact, good}
-use Rattle.polar_write.specs.Spots.{spot, ringWidth, capStep, spotIn, stepOf}
+use Rattle.polar_write.specs.inner.Spots.{spot, ringWidth, capStep, spotIn, spotStep}
 use Rattle.polar_write.proofs.Table.{Told}
 
 -- ---- numbers
@@ -64,8 +64,8 @@ pub record Moved (t : Split) (ts : List Split) (n : Node) (s : Square) : Type 0 
   pub inside : In to s
   pub fine : Good ts to
   pub shape : Shaped (t .width) to
-  pub digits : digitsOf t n s ≡ write (formOf (t .characters) (stepOf t (spotIn n s) .columns)) (stepOf t (spotIn n s) .column) (stepOf t (spotIn n s) .row)
-  pub rest : spotIn to s ≡ stepOf t (spotIn n s) .rest
+  pub digits : digitsOf t n s ≡ write (formOf (t .characters) (spotStep t (spotIn n s) .columns)) (spotStep t (spotIn n s) .column) (spotStep t (spotIn n s) .row)
+  pub rest : spotIn to s ≡ spotStep t (spotIn n s) .rest
 
 module _ (h : ℕ) (t : Split) (T : Told h t) where
   -- the children's height
@@ -105,7 +105,7 @@ module _ (h : ℕ) (t : Split) (T : Told h t) where
     row-rest Y l = rw (rest-direct Y (b .y) (p .height) l, part-height) refl
 
     cell-moved : (ts : List Split) (s : Square) → GoodCell (t ∷ ts) f b → InCell f b s → Moved t ts (cell f b) s
-    unfolding stepOf spotIn
+    unfolding spotStep spotIn
     cell-moved ts s g i =
         let E = cell-exact t ts f b g in
         let e = cell-read (t .characters) p f b E s i in
@@ -164,7 +164,7 @@ module _ (h : ℕ) (t : Split) (T : Told h t) where
         first (suc r) _ x = absurd (omega arith)
 
     cap-moved : (ts : List Split) → GoodCap (t ∷ ts) h → InCap n h s → Moved t ts (cap n h) s
-    unfolding stepOf spotIn
+    unfolding spotStep spotIn
     cap-moved ts g i =
         let E = cap-exact t ts h g in
         let H = cap-here (t .characters) c n h E s i in

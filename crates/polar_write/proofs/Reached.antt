@@ -10,17 +10,17 @@ use lib.Seq.{take-suc, drop-cons}
 use Rattle.grid.specs.declared.Split.{Split}
 use lib.Dec.{ltb, eqb}
 use borrow.Author.Tests.{lt-ltb, le-ltb}
-use Rattle.grid.specs.Units.{side, index, Square, OnGlobe}
+use Rattle.grid.specs.Units.{POLAR, side, index, Square, OnGlobe}
 use Rattle.grid.specs.Splits.{split, first, second, splits, splitAt}
 use Rattle.grid.specs.Tree.{ok, reached, code}
 use Rattle.grid.specs.Characters.{charOf}
 use Rattle.grid.specs.Codes.{codeIn}
-use Rattle.grid.specs.Plane.{Node, globe, pole, letter, globeDigits, globeChild, poleDigits, poleChild, polarCellOf, polarNode, plane, planeCodes, digitsOf, childOf, codeOf}
+use Rattle.grid.specs.Plane.{Node, globe, pole, letter, globeDigits, globeChild, poleDigits, poleChild, polarHeight, polarCellOf, polarNode, plane, planeCodes, digitsOf, childOf, codeOf}
 use Rattle.grid.proofs.Step.{In}
 use Rattle.grid.proofs.Poles.{named, node-in}
 use Rattle.grid.proofs.PlaneLaws.{Good, good}
 use Rattle.polar_write.specs.declared.Spot.{Spot}
-use Rattle.polar_write.specs.Spots.{spotIn, stepOf}
+use Rattle.polar_write.specs.inner.Spots.{spotIn, spotStep}
 use Rattle.polar_write.proofs.Table.{told}
 use Rattle.polar_write.proofs.Loops.{arrive, arrive-more, code-split}
 use Rattle.polar_write.proofs.Moves.{Shaped, Moved, moves}
@@ -85,12 +85,12 @@ module _ (k : ℕ) (s : Square) (l : 2 ≤ k) (h : k < 10) (R : Reach k s) where
       }
 
   -- the square has moved on as the step says
-  pub spot-suc : spotAt (suc k) s ≡ stepOf (splitAt k) (spotAt k s) .rest
+  pub spot-suc : spotAt (suc k) s ≡ spotStep (splitAt k) (spotAt k s) .rest
   spot-suc = ap (λ n. spotIn n s) (node-suc k s h (moved .to) (moved .child)) ∙ moved .rest
 
 -- ---- the first two levels
 
-module _ (s : Square) (o : OnGlobe s) (near : 648806400 ≤ index (s .latitude)) where
+module _ (s : Square) (o : OnGlobe s) (near : POLAR ≤ index (s .latitude)) where
   abbrev north : Bool
   north = side (s .latitude)
 
@@ -117,10 +117,10 @@ module _ (s : Square) (o : OnGlobe s) (near : 648806400 ≤ index (s .latitude))
   second-node = node-suc 1 s (omega arith) _ (subst (λ (n : Node). childOf second n (digitsOf second n s) ≡ ok (polarNode north (polarCellOf s))) (sym first-node) second-child)
 
   -- the cap, the disc's other cells and the belt's are 30' high
-  polar-shape : (k : ℕ) → Shaped 3686400 (polarNode north k)
+  polar-shape : (k : ℕ) → Shaped polarHeight (polarNode north k)
   polar-shape k = go (eqb k 0) refl (ltb k 4) refl
     where
-      go : (b : Bool) → eqb k 0 ≡ b → (c : Bool) → ltb k 4 ≡ c → Shaped 3686400 (polarNode north k)
+      go : (b : Bool) → eqb k 0 ≡ b → (c : Bool) → ltb k 4 ≡ c → Shaped polarHeight (polarNode north k)
       go true p c q = rw p refl
       go false p true q = rw (p, q) (record { near = refl; high = refl; m = 240; some = omega arith; wide = refl })
       go false p false q = rw (p, q) (record { near = refl; high = refl; m = 120; some = omega arith; wide = refl })
@@ -132,7 +132,7 @@ module _ (s : Square) (o : OnGlobe s) (near : 648806400 ≤ index (s .latitude))
       record {
         inside = subst (λ (n : Node). In n s) e (node-in north s (polarCellOf s) o refl (n .few) (n .holds));
         fine = subst (λ (n : Node). Good (drop 2 splits) n) e (good second (drop 2 splits) (pole north) (poleDigits s) _ refl second-child);
-        shape = subst (λ (n : Node). Shaped 3686400 n) e (polar-shape (polarCellOf s));
+        shape = subst (λ (n : Node). Shaped polarHeight n) e (polar-shape (polarCellOf s));
       }
 
   pub reach : (k : ℕ) → 2 ≤ k → k ≤ 10 → Reach k s

@@ -10,20 +10,19 @@ use borrow.Author.Tests.{le-ltb}
 use Rattle.grid.specs.declared.Split.{Split}
 use Rattle.grid.specs.declared.Place.{Place}
 use Rattle.grid.specs.Units.{Square}
-use Rattle.grid.specs.inner.Roads.{squareOf}
 use Rattle.grid.specs.Splits.{first, splitAt}
-use Rattle.grid.specs.inner.Roads.{placeOf}
+use Rattle.grid.specs.inner.Roads.{squareOf, placeOf}
 use Rattle.grid.specs.Characters.{charOf}
 use Rattle.grid.specs.Plane.{Node, globe, letter, globeDigits, polarCellOf, formOf, write, digitsOf, codeOf}
 use Rattle.grid.proofs.Poles.{named}
 use Rattle.grid.proofs.PlaneLaws.{side-unit}
 use Rattle.grid.proofs.Lengths.{grows}
 use Rattle.polar_write.specs.declared.Step.{Step}
-use Rattle.polar_write.specs.Spots.{firstChars, added, Fits, Begun, Started, Writable}
+use Rattle.polar_write.specs.inner.Spots.{firstChars, added, SpotFits, Begun, SpotStarted, PolarWritable}
 use Rattle.polar_write.proofs.Reached.{nodeAt, code-is, code-one, code-suc, first-node}
 use Rattle.polar_write.proofs.Written.{polar-on, add-level}
 
-module _ {level : ℕ} {p : Place} {before : List ℕ} (W : Writable level p before) where
+module _ {level : ℕ} {p : Place} {before : List ℕ} (W : PolarWritable level p before) where
   abbrev s : Square
   s = squareOf p
 
@@ -46,11 +45,11 @@ module _ {level : ℕ} {p : Place} {before : List ℕ} (W : Writable level p bef
       ∙ rw (B .first, B .second) refl
 
   module _ {line : List ℕ} {t : Split} {d : Step} (L : line ≡ sets before 0 (firstChars (p .north))) (z : t ≡ splitAt 1) (B : Begun p d) where
-    pub second-fits : Fits level 1 t d line
+    pub second-fits : SpotFits level 1 t d line
     second-fits =
         let k : polarCellOf s < 16 = named s (polar-on p (W .polar) .0) (polar-on p (W .polar) .1) .few in
         let l : length line ≡ length before = ap length L ∙ length-sets before 0 (firstChars (p .north)) in
-        subst (λ (t : Split). Fits level 1 t d line) (sym z)
+        subst (λ (t : Split). SpotFits level 1 t d line) (sym z)
         (record {
           room = λ h. omega (arith, W .room, grows 1 (level - 1) (omega arith) (omega (arith, W .level-low, W .level-high)), l);
           starts = omega arith;
@@ -61,7 +60,7 @@ module _ {level : ℕ} {p : Place} {before : List ℕ} (W : Writable level p bef
           single = omega (arith, B .second, k);
         })
 
-    pub starts-of : {after : List ℕ} → after ≡ sets line (placeOf t) (added level 1 t d) → Started level p before after (d .rest)
+    pub starts-of : {after : List ℕ} → after ≡ sets line (placeOf t) (added level 1 t d) → SpotStarted level p before after (d .rest)
     starts-of {after} A =
         let one : codeOf 1 s ≡ codeOf (min 1 level) s = ap (λ (i : ℕ). codeOf i s) (let m : 1 ≡ min 1 level = omega (arith, W .level-low) in m) in
         record {

@@ -14,7 +14,7 @@ use Rattle.grid.specs.inner.Roads.{placeOf}
 use Rattle.grid.specs.Characters.{charOf}
 use Rattle.grid.specs.Plane.{quad, trio, write}
 use Rattle.polar_write.specs.declared.Step.{Step}
-use Rattle.polar_write.specs.Spots.{spot, step, ringWidth, capStep, added}
+use Rattle.polar_write.specs.inner.Spots.{spot, step, ringWidth, capStep, added}
 
 -- a cap's row other than 0
 pub in-ring : (t : Split) (e q r : ℕ) → (r ≡ 0 → ⊥)

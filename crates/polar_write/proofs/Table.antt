@@ -6,9 +6,10 @@ use Prim.Native.Nat.{ℕ, _+_, _-_, _*_, _/_, _≤_, _<_}
 use lib.Dec.{ltb, leb, eqb}
 use borrow.Author.Tests.{ltb-true, leb-true, eqb-true, le-ltb}
 use Rattle.grid.specs.declared.Split.{Split}
+use Rattle.grid.specs.Units.{TURN}
 use Rattle.grid.specs.Splits.{splitAt}
 use Rattle.grid.proofs.Cut.{allBelow, below}
-use Rattle.polar_write.specs.Spots.{ringWidth}
+use Rattle.polar_write.specs.inner.Spots.{ringWidth}
 
 -- a rule at each number from 2 to 9
 from-two : (f : ℕ → Bool) (k : ℕ) → allBelow (λ k. ltb k 2 || f k) 10 ≡ true → 2 ≤ k → k < 10 → f k ≡ true
@@ -19,7 +20,7 @@ pub record Told (h : ℕ) (t : Split) : Type 0 where
   pub high : 0 < h
   pub wide : t .columns * t .width ≡ h
   pub even : t .inward ≡ t .columns
-  pub round : t .ring * ringWidth t ≡ 2654208000
+  pub round : t .ring * ringWidth t ≡ TURN
   pub parts : ringWidth t / t .width * t .width ≡ ringWidth t
   pub some-columns : 0 < t .columns
   pub some-width : 0 < t .width
@@ -39,7 +40,7 @@ told k a b =
       high = ltb-true _ _ (from-two (λ k. ltb 0 (splitAt (k - 1) .width)) k refl a b);
       wide = eqb-true _ _ (from-two (λ k. eqb (splitAt k .columns * splitAt k .width) (splitAt (k - 1) .width)) k refl a b);
       even = eqb-true _ _ (from-two (λ k. eqb (splitAt k .inward) (splitAt k .columns)) k refl a b);
-      round = eqb-true _ _ (from-two (λ k. eqb (splitAt k .ring * ringWidth (splitAt k)) 2654208000) k refl a b);
+      round = eqb-true _ _ (from-two (λ k. eqb (splitAt k .ring * ringWidth (splitAt k)) TURN) k refl a b);
       parts = eqb-true _ _ (from-two (λ k. eqb (ringWidth (splitAt k) / splitAt k .width * splitAt k .width) (ringWidth (splitAt k))) k refl a b);
       some-columns = ltb-true _ _ (from-two (λ k. ltb 0 (splitAt k .columns)) k refl a b);
       some-width = ltb-true _ _ (from-two (λ k. ltb 0 (splitAt k .width)) k refl a b);

@@ -9,10 +9,9 @@ use lib.ListN.{length}
 use lib.Seq.{sets, length-sets}
 use Rattle.grid.specs.declared.Split.{Split}
 use Rattle.grid.specs.declared.Place.{Place}
-use Rattle.grid.specs.Units.{index, Square, OnGlobe}
-use Rattle.grid.specs.inner.Roads.{squareOf}
+use Rattle.grid.specs.Units.{POLAR, index, Square, OnGlobe}
 use Rattle.grid.specs.Splits.{splitAt}
-use Rattle.grid.specs.inner.Roads.{placeOf}
+use Rattle.grid.specs.inner.Roads.{squareOf, placeOf}
 use Rattle.grid.specs.Characters.{charOf}
 use Rattle.grid.specs.Plane.{Node, polarCellOf, polarNode, formOf, write, codeOf}
 use Rattle.grid.proofs.Lists.{sets-next}
@@ -20,7 +19,7 @@ use Rattle.grid.proofs.Lengths.{grows, code-start}
 use Rattle.grid.proofs.PlaneLaws.{index-unit, side-unit, on-globe}
 use Rattle.polar_write.specs.declared.Spot.{Spot}
 use Rattle.polar_write.specs.declared.Step.{Step}
-use Rattle.polar_write.specs.Spots.{stepOf, added, Stands, Ready, Gone, Polar, Started, Writable, spotIn}
+use Rattle.polar_write.specs.inner.Spots.{spotStep, added, SpotStands, SpotReady, Gone, Polar, SpotStarted, PolarWritable, spotIn}
 use Rattle.polar_write.proofs.Table.{told}
 use Rattle.polar_write.proofs.Bounds.{spot-stands}
 use Rattle.polar_write.proofs.Reached.{nodeAt, spotAt, Reach, reach, second-node, moved, spot-suc, code-suc}
@@ -34,11 +33,11 @@ module _ (level k : ℕ) (s : Square) (o : OnGlobe s) (h : k < 10) (d : Step)
 
 -- after k levels: what was asked, the line, and the spot
 pub record Done (level k : ℕ) (p : Place) (before line : List ℕ) (r : Spot) : Type 0 where
-  pub asked : Writable level p before
+  pub asked : PolarWritable level p before
   pub text : line ≡ sets before 0 (codeOf (min k level) (squareOf p))
   pub spot : r ≡ spotAt k (squareOf p)
 
-pub polar-on : (p : Place) → Polar p → OnGlobe (squareOf p) × (648806400 ≤ index (squareOf p .latitude))
+pub polar-on : (p : Place) → Polar p → OnGlobe (squareOf p) × (POLAR ≤ index (squareOf p .latitude))
 polar-on p h = (on-globe p (h .x-in) (h .y-in), rw (index-unit (p .north) (p .y)) (h .near))
 
 -- the line is as long as it was
@@ -63,19 +62,19 @@ module _ (k : ℕ) (a : 2 ≤ k) (b : k < 10) {level : ℕ} {p : Place} {t : Spl
         asked = D .asked;
         text =
             G .laid
-            ∙ ap (λ (x : Spot). sets line (placeOf (splitAt k)) (added level k (splitAt k) (stepOf (splitAt k) x))) (D .spot)
-            ∙ ap (λ (x : List ℕ). sets x (placeOf (splitAt k)) (added level k (splitAt k) (stepOf (splitAt k) (spotAt k s)))) (D .text)
-            ∙ add-level level k s on b (stepOf (splitAt k) (spotAt k s)) (code-suc k s b ∙ ap (λ x. codeOf k s ++ map charOf x) (moved k s a b there .digits)) before;
-        spot = G .moved ∙ ap (λ (x : Spot). stepOf (splitAt k) x .rest) (D .spot) ∙ sym (spot-suc k s a b there);
+            ∙ ap (λ (x : Spot). sets line (placeOf (splitAt k)) (added level k (splitAt k) (spotStep (splitAt k) x))) (D .spot)
+            ∙ ap (λ (x : List ℕ). sets x (placeOf (splitAt k)) (added level k (splitAt k) (spotStep (splitAt k) (spotAt k s)))) (D .text)
+            ∙ add-level level k s on b (spotStep (splitAt k) (spotAt k s)) (code-suc k s b ∙ ap (λ x. codeOf k s ++ map charOf x) (moved k s a b there .digits)) before;
+        spot = G .moved ∙ ap (λ (x : Spot). spotStep (splitAt k) x .rest) (D .spot) ∙ sym (spot-suc k s a b there);
       }
 
-  pub ready : Ready level k t q line
+  pub ready : SpotReady level k t q line
   ready =
       record {
         level-low = a;
         level-high = b;
         split = z;
-        stands = subst (λ (x : Spot). Stands (splitAt (k - 1) .width) x) (sym (D .spot)) (spot-stands (splitAt (k - 1) .width) (nodeAt k s) s (told k a b .high) (there .shape) (there .inside));
+        stands = subst (λ (x : Spot). SpotStands (splitAt (k - 1) .width) x) (sym (D .spot)) (spot-stands (splitAt (k - 1) .width) (nodeAt k s) s (told k a b .high) (there .shape) (there .inside));
         room = λ h.
             (let l : length line ≡ length before = same-room D in
             let m : t .length ≡ splitAt k .length = ap (λ (x : Split). x .length) z in
@@ -83,7 +82,7 @@ module _ (k : ℕ) (a : 2 ≤ k) (b : k < 10) {level : ℕ} {p : Place} {t : Spl
       }
 
 -- the first two levels
-pub started : {level : ℕ} {p : Place} {before after : List ℕ} {r : Spot} → Writable level p before → Started level p before after r → Done level 2 p before after r
+pub started : {level : ℕ} {p : Place} {before after : List ℕ} {r : Spot} → PolarWritable level p before → SpotStarted level p before after r → Done level 2 p before after r
 started {level} {p} {before} {after} {r} W S =
     let s = squareOf p in
     let P = W .polar in

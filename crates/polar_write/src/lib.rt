@@ -8,30 +8,16 @@ ghost use Prim.Native.Nat.{_+_, _*_, _/_, _≤_, _<_};
 ghost use lib.Dec.{eqb};
 ghost use lib.ListN.{length};
 ghost use lib.Seq.{sets};
-ghost use Rattle.grid.specs.Units.{HALF, DISC, unit, eastward};
-ghost use Rattle.grid.specs.inner.Roads.{squareOf};
-ghost use Rattle.grid.specs.inner.Roads.{placeOf};
-ghost use Rattle.grid.specs.Plane.{codeOf};
-ghost use Rattle.polar_write.specs.Spots.{firstChars, capStep, stepOf, added, beltCell, Divides, Fits, Ready, Gone, Polar, Begun, Started, Writable};
+ghost use Rattle.grid.specs.Units.{TURN, HALF, DISC, unit, eastward};
+ghost use Rattle.grid.specs.inner.Roads.{squareOf, placeOf};
+ghost use Rattle.grid.specs.Splits.{second, polarCellAt};
+ghost use Rattle.grid.specs.Plane.{SIXTH, polarHeight, beltBox, codeOf};
+ghost use Rattle.polar_write.specs.inner.Spots.{firstChars, capStep, spotStep, added, SpotDivides, SpotFits, SpotReady, Gone, Polar, Lies, LiesInColumn, Begun, SpotStarted, PolarWritable};
 use grid::Place;
 use grid::Split;
 
-// 360°, 120° and 60°.
-const TURN: u32 = 2654208000;
-
-const THIRD: u32 = 884736000;
-
-const SIXTH: u32 = 442368000;
-
-// 88° and 89°, where the belt and the disc begin, and the last latitude index before the pole.
-const POLAR: u32 = 648806400;
-
-const DISC: u32 = 656179200;
-
-const LAST: u32 = 663551999;
-
-// 30', the height of every polar cell of level 2.
-const HIGH: u32 = 3686400;
+// 60°, the width of a belt cell.
+const SIXTH: u32 = 60 * grid::DEGREE;
 
 // Where a square stands: in a cap, x eastward and y from the pole; in another cell, both from its corner in its own directions.
 struct Spot {
@@ -50,7 +36,7 @@ struct Step {
 
 // One level of a cap, e eastward and q from the pole: row 0 is the new cap, another row leaves it.
 fn divide_cap(s: Split, e: u32, q: u32) -> Step
-    requires { ⌜ Divides s ⌝ }
+    requires { ⌜ SpotDivides s ⌝ }
     ensures { λ r. ⌜ r ≡ capStep s e q (q / s .width) ⌝ }
 {
     let h = s.width;
@@ -68,7 +54,7 @@ fn divide_cap(s: Split, e: u32, q: u32) -> Step
             rest: rest,
         };
     }
-    let w = TURN / s.ring;
+    let w = grid::TURN / s.ring;
     let rest = Spot {
         cap: false,
         x: e % w / (w / h),
@@ -84,8 +70,8 @@ fn divide_cap(s: Split, e: u32, q: u32) -> Step
 
 // One level, whatever its split.
 fn divide(s: Split, spot: Spot) -> Step
-    requires { ⌜ Divides s ⌝ }
-    ensures { λ r. ⌜ r ≡ stepOf s spot ⌝ }
+    requires { ⌜ SpotDivides s ⌝ }
+    ensures { λ r. ⌜ r ≡ spotStep s spot ⌝ }
 {
     let x = spot.x;
     let y = spot.y;
@@ -120,7 +106,7 @@ fn single(columns: u32, column: u32, row: u32) -> u32
 
 // Writes what place k of the table, level k + 1, adds to a code: nothing where the code ends before it.
 fn put_step(level: u32, k: u32, s: Split, d: Step, line: &mut [u8])
-    requires { ⌜ Fits level k s d (now line) ⌝ }
+    requires { ⌜ SpotFits level k s d (now line) ⌝ }
     ensures { λ _. ⌜ now (line .exit) ≡ sets (now (line .entry)) (placeOf s) (added level k s d) ⌝ }
 {
     if level <= k {
@@ -137,7 +123,7 @@ fn put_step(level: u32, k: u32, s: Split, d: Step, line: &mut [u8])
 
 // Goes down place k of the table, from 2 on: level k + 1, written where the code goes so far.
 fn next(level: u32, k: u32, s: Split, spot: Spot, line: &mut [u8]) -> Spot
-    requires { ⌜ Ready level k s spot (now line) ⌝ }
+    requires { ⌜ SpotReady level k s spot (now line) ⌝ }
     ensures { λ r. ⌜ Gone level k s spot (now (line .entry)) (now (line .exit)) r ⌝ }
 {
     let d = divide(s, spot);
@@ -161,72 +147,159 @@ fn eastward_of(east: bool, x: u32) -> u32
     requires { ⌜ x < HALF ⌝ }
     ensures { λ r. ⌜ r ≡ eastward (unit east x) ⌝ }
 {
-    if east { x } else { TURN - 1 - x }
+    if east { x } else { grid::TURN - 1 - x }
 }
 
-// The outer belt cell in the sixth of the turn that is i away from the prime meridian: east 10, 11, 20, west 30, 31, 21.
-fn belt_cell(east: bool, i: u32) -> u32
-    requires { ⌜ i < 3 ⌝ }
-    ensures { λ r. ⌜ r ≡ beltCell east i ⌝ }
+// The west edge of the polar cell k. Called with a literal it folds away, as `low_of` does.
+fn west_of(k: u32) -> u32
+    requires { ⌜ k < 16 ⌝ }
+    ensures { λ r. ⌜ r ≡ polarCellAt k .west ⌝ }
 {
-    if east {
-        if i < 2 { 4 + i } else { 8 }
+    grid::polar_cell(k as usize).west
+}
+
+// Its edge farther from the pole.
+fn low_of(k: u32) -> u32
+    requires { ⌜ k < 16 ⌝ }
+    ensures { λ r. ⌜ r ≡ polarCellAt k .low ⌝ }
+{
+    grid::polar_cell(k as usize).low
+}
+
+// 30', the height of the polar cells: N000 and S000 are two degrees high and have four rows.
+fn high() -> u32
+    ensures { λ r. ⌜ r ≡ polarHeight ⌝ }
+{
+    2 * grid::DEGREE / grid::split_of(0).inward / grid::split_of(1).inward
+}
+
+// 120°, the width of the disc's cells but the cap: three about it.
+fn third() -> u32
+    ensures { λ r. ⌜ r ≡ TURN / second .ring ⌝ }
+{
+    grid::TURN / grid::split_of(1).ring
+}
+
+// Where a belt cell with a west edge begins, outward from the prime meridian.
+fn corner_of(west: u32) -> u32
+    requires { ⌜ west + SIXTH ≤ TURN ⌝ }
+    ensures { λ r. ⌜ r ≡ beltBox west 0 .x ⌝ }
+{
+    if west < grid::HALF {
+        west
     } else {
-        if i < 2 { 12 + i } else { 9 }
+        grid::TURN - west - SIXTH
     }
 }
 
-// The step from N000 or S000 to a belt cell: 60° by 30', 120 times as wide as high.
+// The step from N000 or S000 to the belt cell k.
+fn to_belt(k: u32, p: Place) -> Step
+    requires { ⌜ (4 ≤ k) × Lies k p ⌝ }
+    ensures { λ r. ⌜ Begun p r ⌝ }
+{
+    let c = grid::polar_cell(k as usize);
+    let rest = Spot {
+        cap: false,
+        x: (p.x - corner_of(c.west)) / (SIXTH / high()),
+        y: p.y - c.low,
+    };
+    Step {
+        columns: 4,
+        column: k / 4,
+        row: k % 4,
+        rest: rest,
+    }
+}
+
+// To the belt cell k of the outer row, or to the one between it and the pole.
+fn to_column(k: u32, p: Place) -> Step
+    requires { ⌜ LiesInColumn k p ⌝ }
+    ensures { λ r. ⌜ Begun p r ⌝ }
+{
+    if p.y < low_of(6) {
+        to_belt(k, p)
+    } else {
+        to_belt(k + 2, p)
+    }
+}
+
+// To the belt cell that has the place, outward from the prime meridian: 10, 11 and 20 east, 30, 31 and 21 west, and those poleward of them.
 fn in_belt(p: Place) -> Step
     requires { ⌜ Polar p × (p .y < DISC) ⌝ }
     ensures { λ r. ⌜ Begun p r ⌝ }
 {
-    let v = p.y - POLAR;
-    let n = belt_cell(p.east, p.x / SIXTH) + 2 * (v / HIGH);
+    if p.east {
+        if p.x < west_of(5) {
+            return to_column(4, p);
+        }
+        if p.x < west_of(8) {
+            return to_column(5, p);
+        }
+        return to_column(8, p);
+    }
+    if p.x < grid::TURN - west_of(12) {
+        return to_column(12, p);
+    }
+    if p.x < grid::TURN - west_of(13) {
+        return to_column(13, p);
+    }
+    to_column(9, p)
+}
+
+// To the disc cell k, no cap.
+fn to_disc(k: u32, p: Place) -> Step
+    requires { ⌜ (0 < k) × (k < 4) × Lies k p ⌝ }
+    ensures { λ r. ⌜ Begun p r ⌝ }
+{
+    let c = grid::polar_cell(k as usize);
+    let h = high();
     let rest = Spot {
         cap: false,
-        x: p.x % SIXTH / 120,
-        y: v % HIGH,
+        x: (eastward_of(p.east, p.x) - c.west) / (third() / h),
+        y: c.low + h - 1 - p.y,
     };
     Step {
         columns: 4,
-        column: n / 4,
-        row: n % 4,
+        column: k / 4,
+        row: k % 4,
         rest: rest,
     }
 }
 
-// The step from N000 or S000 to the cap, or to another cell of the disc: 120° by 30', 240 times as wide as high.
-fn in_disc(p: Place) -> Step
-    requires { ⌜ Polar p × (DISC ≤ p .y) ⌝ }
+// To the cap.
+fn to_cap(p: Place) -> Step
+    requires { ⌜ Lies 0 p ⌝ }
     ensures { λ r. ⌜ Begun p r ⌝ }
 {
-    let e = eastward_of(p.east, p.x);
-    let q = LAST - p.y;
-    if q < HIGH {
-        let rest = Spot {
-            cap: true,
-            x: e,
-            y: q,
-        };
-        return Step {
-            columns: 4,
-            column: 0,
-            row: 0,
-            rest: rest,
-        };
-    }
     let rest = Spot {
-        cap: false,
-        x: e % THIRD / 240,
-        y: q - HIGH,
+        cap: true,
+        x: eastward_of(p.east, p.x),
+        y: grid::QUARTER - 1 - p.y,
     };
     Step {
         columns: 4,
         column: 0,
-        row: 1 + e / THIRD,
+        row: 0,
         rest: rest,
     }
+}
+
+// To the disc cell that has the place, the cap or another.
+fn in_disc(p: Place) -> Step
+    requires { ⌜ Polar p × (DISC ≤ p .y) ⌝ }
+    ensures { λ r. ⌜ Begun p r ⌝ }
+{
+    if low_of(0) <= p.y {
+        return to_cap(p);
+    }
+    let e = eastward_of(p.east, p.x);
+    if e < west_of(2) {
+        return to_disc(1, p);
+    }
+    if e < west_of(3) {
+        return to_disc(2, p);
+    }
+    to_disc(3, p)
 }
 
 // The second level: the polar cell.
@@ -234,13 +307,17 @@ fn begin(p: Place) -> Step
     requires { ⌜ Polar p ⌝ }
     ensures { λ r. ⌜ Begun p r ⌝ }
 {
-    if p.y < DISC { in_belt(p) } else { in_disc(p) }
+    if p.y < grid::DISC {
+        in_belt(p)
+    } else {
+        in_disc(p)
+    }
 }
 
 // Writes the first two levels, as far as the code goes.
 fn start(level: u32, p: Place, line: &mut [u8]) -> Spot
-    requires { ⌜ Writable level p (now line) ⌝ }
-    ensures { λ r. ⌜ Started level p (now (line .entry)) (now (line .exit)) r ⌝ }
+    requires { ⌜ PolarWritable level p (now line) ⌝ }
+    ensures { λ r. ⌜ SpotStarted level p (now (line .entry)) (now (line .exit)) r ⌝ }
 {
     put_first(p.north, line);
     let d = begin(p);
@@ -250,7 +327,7 @@ fn start(level: u32, p: Place, line: &mut [u8]) -> Spot
 
 // The code of a level for a polar place, from the line's beginning on; the bytes after it stay.
 pub fn put(level: u32, p: Place, line: &mut [u8])
-    requires { ⌜ Writable level p (now line) ⌝ }
+    requires { ⌜ PolarWritable level p (now line) ⌝ }
     ensures { λ _. ⌜ now (line .exit) ≡ sets (now (line .entry)) 0 (codeOf level (squareOf p)) ⌝ }
 {
     let a = start(level, p, line);

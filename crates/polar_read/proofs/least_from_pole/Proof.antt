@@ -18,6 +18,9 @@ number-on-requires c κs = search needs
 sub-number-on-2 : tie.Need-sub-number-on-2
 sub-number-on-2 c = search needs
 
+sub-number-on-3 : tie.Need-sub-number-on-3
+sub-number-on-3 c = search needs
+
 number-on-requires-2 : tie.Need-number-on-requires-2
 number-on-requires-2 c κs = search needs
 
@@ -35,6 +38,7 @@ least-from-pole-spec =
     sub-number-on
     number-on-requires
     sub-number-on-2
+    sub-number-on-3
     number-on-requires-2
     returns
     returns-2)

@@ -13,6 +13,9 @@ number-on-requires c κs = search needs
 sub-number-on : tie.Need-sub-number-on
 sub-number-on c = search needs
 
+sub-number-on-2 : tie.Need-sub-number-on-2
+sub-number-on-2 c = search needs
+
 number-on-requires-2 : tie.Need-number-on-requires-2
 number-on-requires-2 c κs = search needs
 
@@ -24,4 +27,4 @@ returns-2 c = toZ-ofZ {w = w32} {z = c .number-on2 .result} (record { sfits = c 
 
 pub longitude-at-spec : {M : Type 1} → statement M
 longitude-at-spec =
-    tie.close (tie.spec number-on-requires sub-number-on number-on-requires-2 returns returns-2)
+    tie.close (tie.spec number-on-requires sub-number-on sub-number-on-2 number-on-requires-2 returns returns-2)

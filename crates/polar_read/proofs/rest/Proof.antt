@@ -16,7 +16,7 @@ returns : tie.Need-returns
 returns c = let s = c .before .before .before .before in start-answers (c .before .before .start .ensures) (s .args .code .now) (c .before .if1 .taken) (c .answer .ensures)
 
 second-requires : tie.Need-second-requires
-second-requires c κs = (start-whole (c .before .start .ensures) .round, long-two (c .before .before .before .pre) (c .if1 .left))
+second-requires c κs = (start-whole (c .before .start .ensures) .round, ap (λ (b : Cursor). b .place) (c .before .start .ensures), long-two (c .before .before .before .pre) (c .if1 .left))
 
 split-of-requires : tie.Need-split-of-requires
 split-of-requires c κs = search needs

@@ -1,5 +1,5 @@
 -- `polar_write::divide` meets its contract. Assumes nothing.
-use Rattle.polar_write.specs.Spots.{stepOf}
+use Rattle.polar_write.specs.inner.Spots.{spotStep}
 use borrow.Author.Needs.{needs}
 use Rattle.polar_write.proofs.divide.Statement.{statement}
 use Rattle.polar_write.proofs.divide.Tie as tie
@@ -8,7 +8,7 @@ divide-cap-requires : tie.Need-divide-cap-requires
 divide-cap-requires c κs = search needs
 
 returns : tie.Need-returns
-unfolding stepOf
+unfolding spotStep
 returns c = rw (c .before .if1 .taken) (c .divide-cap .ensures)
 
 rem-t8 : tie.Need-rem-t8
@@ -24,7 +24,7 @@ div-t9 : tie.Need-div-t9
 div-t9 c = search needs
 
 returns-2 : tie.Need-returns-2
-unfolding stepOf
+unfolding spotStep
 returns-2 c = simp (c .if1 .left)
 
 pub divide-spec : {M : Type 1} → statement M

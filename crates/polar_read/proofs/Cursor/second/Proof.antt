@@ -14,7 +14,10 @@ stopped-requires : tie.Need-stopped-requires
 stopped-requires c κs = search needs
 
 returns : tie.Need-returns
-returns c = let s = c .before .before .before .before .before in second-first (s .args .self .north) (s .args .code .now) (s .pre .1) (c .before .before .digit .ensures) (c .before .if1 .taken) (c .stopped .ensures 6)
+returns c = let s = c .before .before .before .before .before in second-first (s .args .self .north) (s .args .code .now) (s .pre .1) (s .pre .2) (c .before .before .digit .ensures) (c .before .if1 .taken) (c .stopped .ensures _)
+
+add-digit : tie.Need-add-digit
+add-digit c = search needs
 
 shared-slice-read-digit-2 : tie.Need-shared-slice-read-digit-2
 shared-slice-read-digit-2 c = search needs
@@ -22,11 +25,14 @@ shared-slice-read-digit-2 c = search needs
 digit-requires-2 : tie.Need-digit-requires-2
 digit-requires-2 c κs = search needs
 
+add-stopped : tie.Need-add-stopped
+add-stopped c = search needs
+
 stopped-requires-2 : tie.Need-stopped-requires-2
 stopped-requires-2 c κs = search needs
 
 returns-2 : tie.Need-returns-2
-returns-2 c = let s = c .before .before .before .before .before .before .before .before in second-second (s .args .self .north) (s .args .code .now) (s .pre .1) (c .before .before .before .before .before .digit .ensures) (c .before .before .digit2 .ensures) (c .before .before .before .before .if1 .left) (c .before .if2 .taken) (c .stopped2 .ensures 6)
+returns-2 c = let s = c .before .before .before .before .before .before .before .before in second-second (s .args .self .north) (s .args .code .now) (s .pre .1) (s .pre .2) (c .before .before .before .before .before .digit .ensures) (c .before .before .digit2 .ensures) (c .before .before .before .before .if1 .left) (c .before .if2 .taken) (c .stopped2 .ensures _)
 
 mul-polar : tie.Need-mul-polar
 mul-polar c = search needs
@@ -38,7 +44,7 @@ polar-requires : tie.Need-polar-requires
 polar-requires c κs = search needs
 
 returns-3 : tie.Need-returns-3
-returns-3 c = let s = c .before .before .before .before .before .before .before .before in second-both (s .args .self .north) (s .args .code .now) (s .pre .1) (c .before .before .before .before .before .digit .ensures) (c .before .before .digit2 .ensures) (c .before .before .before .before .if1 .left) (c .before .if2 .left) (c .polar .ensures)
+returns-3 c = let s = c .before .before .before .before .before .before .before .before in second-both (s .args .self .north) (s .args .code .now) (s .pre .1) (s .pre .2) (c .before .before .before .before .before .digit .ensures) (c .before .before .digit2 .ensures) (c .before .before .before .before .if1 .left) (c .before .if2 .left) (c .polar .ensures)
 
 pub second-spec : {M : Type 1} → statement M
 second-spec =
@@ -48,8 +54,10 @@ second-spec =
     digit-requires
     stopped-requires
     returns
+    add-digit
     shared-slice-read-digit-2
     digit-requires-2
+    add-stopped
     stopped-requires-2
     returns-2
     mul-polar

@@ -9,7 +9,7 @@ use Rattle.grid.specs.declared.Split.{Split}
 use Rattle.grid.specs.Units.{TURN, HALF, QUARTER}
 use Rattle.grid.specs.Splits.{splitAt}
 use Rattle.polar_read.specs.declared.Cursor.{Cursor}
-use Rattle.polar_read.specs.Reading.{Round, columnsOf, Reached}
+use Rattle.polar_read.specs.inner.Reading.{Round, columnsOf, PolarReached}
 
 -- the code w is as long as one of its level
 pub record OfLevel (level : ℕ) (w : List ℕ) : Type 0 where
@@ -18,28 +18,28 @@ pub record OfLevel (level : ℕ) (w : List ℕ) : Type 0 where
   pub long : length w ≡ splitAt (level - 1) .length
 
 -- a good cursor, whose cell lies on the globe
-pub record Room (c : Cursor) (s : Split) : Type 0 where
+pub record PolarRoom (c : Cursor) (s : Split) : Type 0 where
   pub good : c .good ≡ true
-  pub near : c .place + s .characters ≤ 20
+  pub near : c .place + s .characters ≤ splitAt 9 .length
   pub wide : c .x + c .w ≤ TURN
   pub high : c .y + c .h ≤ QUARTER
   pub round : Round c
 
 -- and it has a child in column i and row j
 pub record ChildRoom (c : Cursor) (s : Split) (columns i j : ℕ) : Type 0 where
-  pub room : Room c s
+  pub room : PolarRoom c s
   pub counted : columns ≡ columnsOf c s
   pub column : i < columns
   pub row : j < s .inward
 
 -- of the code w, as long as one of its level, the levels to k were read; s is the next, of n characters
-pub record Ready (level k : ℕ) (s : Split) (n : ℕ) (w : List ℕ) (c : Cursor) : Type 0 where
+pub record PolarReady (level k : ℕ) (s : Split) (n : ℕ) (w : List ℕ) (c : Cursor) : Type 0 where
   pub later : 1 ≤ k
   pub last : k < 10
   pub long : OfLevel level w
   pub table : s ≡ splitAt k
   pub size : s .characters ≡ n
-  pub so-far : Reached (min k level) w c
+  pub so-far : PolarReached (min k level) w c
 
 -- the cursor's cell is not empty and lies in its frame
 pub record Whole (c : Cursor) : Type 0 where

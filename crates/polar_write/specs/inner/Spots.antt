@@ -11,11 +11,10 @@ use lib.Seq.{sets}
 use Rattle.grid.specs.declared.Split.{Split}
 use Rattle.grid.specs.declared.Place.{Place}
 use Rattle.grid.specs.Units.{TURN, HALF, QUARTER, POLAR, eastward, fromPole, Square}
-use Rattle.grid.specs.inner.Roads.{squareOf}
-use Rattle.grid.specs.Splits.{splitAt}
-use Rattle.grid.specs.inner.Roads.{placeOf}
+use Rattle.grid.specs.Splits.{splitAt, polarCellAt}
+use Rattle.grid.specs.inner.Roads.{squareOf, placeOf}
 use Rattle.grid.specs.Characters.{charOf}
-use Rattle.grid.specs.Plane.{Node, globe, pole, cell, cap, xIn, yIn, formOf, write, letter, polarCellOf, polarNode, codeOf}
+use Rattle.grid.specs.Plane.{Node, globe, pole, cell, cap, xIn, yIn, formOf, write, letter, polarHolds, polarCellOf, polarNode, codeOf}
 use Rattle.polar_write.specs.declared.Spot.{Spot}
 use Rattle.polar_write.specs.declared.Step.{Step}
 
@@ -51,8 +50,8 @@ stepAs true t x y = capStep t x y (y / t .width)
 stepAs false t x y = step (t .columns) (x / t .width) (y / t .width) (spot false (x % t .width) (y % t .width))
 
 -- the step of a spot
-unfoldable pub stepOf : Split → Spot → Step
-stepOf t s = stepAs (s .cap) t (s .x) (s .y)
+unfoldable pub spotStep : Split → Spot → Step
+spotStep t s = stepAs (s .cap) t (s .x) (s .y)
 
 -- N000 or S000
 abbrev pub firstChars : Bool → List ℕ
@@ -63,13 +62,13 @@ unfoldable pub added : ℕ → ℕ → Split → Step → List ℕ
 added level k t s = cond (ltb k level) (map charOf (write (formOf (t .characters) (s .columns)) (s .column) (s .row))) []
 
 -- a level's divisions have divisors
-pub record Divides (t : Split) : Type 0 where
+pub record SpotDivides (t : Split) : Type 0 where
   pub wide : 0 < t .width
   pub round : 0 < t .ring
   pub parts : 0 < ringWidth t / t .width
 
 -- the digits of a step have characters, and the line has room for them
-pub record Fits (level k : ℕ) (t : Split) (s : Step) (line : List ℕ) : Type 0 where
+pub record SpotFits (level k : ℕ) (t : Split) (s : Step) (line : List ℕ) : Type 0 where
   pub room : k < level → t .length ≤ length line
   pub starts : t .characters ≤ t .length
   pub some : 1 ≤ t .characters
@@ -79,22 +78,22 @@ pub record Fits (level k : ℕ) (t : Split) (s : Step) (line : List ℕ) : Type 
   pub single : s .row ≤ 1 + 100 * (t .characters - 1)
 
 -- a spot in a cell h high, or in a cap
-pub record Stands (h : ℕ) (s : Spot) : Type 0 where
+pub record SpotStands (h : ℕ) (s : Spot) : Type 0 where
   pub across : s .x < cond (s .cap) TURN h
   pub along : s .y < h
 
 -- place k of the table, from 2 on, can be gone down
-pub record Ready (level k : ℕ) (t : Split) (s : Spot) (line : List ℕ) : Type 0 where
+pub record SpotReady (level k : ℕ) (t : Split) (s : Spot) (line : List ℕ) : Type 0 where
   pub level-low : 2 ≤ k
   pub level-high : k < 10
   pub split : t ≡ splitAt k
-  pub stands : Stands (splitAt (k - 1) .width) s
+  pub stands : SpotStands (splitAt (k - 1) .width) s
   pub room : k < level → t .length ≤ length line
 
 -- gone down: the spot is moved, and the level's characters are laid down
 pub record Gone (level k : ℕ) (t : Split) (s : Spot) (before after : List ℕ) (r : Spot) : Type 0 where
-  pub moved : r ≡ stepOf t s .rest
-  pub laid : after ≡ sets before (placeOf t) (added level k t (stepOf t s))
+  pub moved : r ≡ spotStep t s .rest
+  pub laid : after ≡ sets before (placeOf t) (added level k t (spotStep t s))
 
 -- a polar place
 pub record Polar (p : Place) : Type 0 where
@@ -102,10 +101,17 @@ pub record Polar (p : Place) : Type 0 where
   pub near : POLAR ≤ p .y
   pub y-in : p .y < QUARTER
 
--- the outer belt cell in the sixth of the turn that is i away from the prime meridian: east 10, 11, 20, west 30, 31, 21
-unfoldable pub beltCell : Bool → ℕ → ℕ
-beltCell true i = cond (ltb i 2) (4 + i) 8
-beltCell false i = cond (ltb i 2) (12 + i) 9
+-- the place lies in the polar cell k
+pub record Lies (k : ℕ) (p : Place) : Type 0 where
+  pub polar : Polar p
+  pub few : k < 16
+  pub holds : polarHolds (squareOf p) k ≡ true
+
+-- the place lies in the belt cell k of the outer row, or in the one between it and the pole, whose second digit is 2 more
+pub record LiesInColumn (k : ℕ) (p : Place) : Type 0 where
+  pub belt : 4 ≤ k
+  pub outer : p .y < polarCellAt 6 .low → Lies k p
+  pub inner : polarCellAt 6 .low ≤ p .y → Lies (k + 2) p
 
 -- the place's polar cell, by its two digits, and where the place stands in it
 pub record Begun (p : Place) (r : Step) : Type 0 where
@@ -114,13 +120,13 @@ pub record Begun (p : Place) (r : Step) : Type 0 where
   pub stands : r .rest ≡ spotIn (polarNode (p .north) (polarCellOf (squareOf p))) (squareOf p)
 
 -- what the writer is called with
-pub record Writable (level : ℕ) (p : Place) (line : List ℕ) : Type 0 where
+pub record PolarWritable (level : ℕ) (p : Place) (line : List ℕ) : Type 0 where
   pub level-low : 1 ≤ level
   pub level-high : level ≤ 10
   pub polar : Polar p
   pub room : splitAt (level - 1) .length ≤ length line
 
 -- the first two levels are written, as far as the level goes, and the place stands in its polar cell
-pub record Started (level : ℕ) (p : Place) (before after : List ℕ) (r : Spot) : Type 0 where
+pub record SpotStarted (level : ℕ) (p : Place) (before after : List ℕ) (r : Spot) : Type 0 where
   pub stands : r ≡ spotIn (polarNode (p .north) (polarCellOf (squareOf p))) (squareOf p)
   pub laid : after ≡ sets before 0 (codeOf (min 2 level) (squareOf p))

@@ -12,7 +12,7 @@ use Rattle.grid.specs.Units.{TURN}
 use Rattle.grid.specs.Characters.{digitOf}
 use Rattle.grid.specs.Tree.{Read, ok, bad, guard, shift, follow}
 use Rattle.grid.specs.Answers.{Answer, accepted, refused, wrongCharacter}
-use Rattle.grid.specs.Splits.{splits, splitAt}
+use Rattle.grid.specs.Splits.{first, splits, splitAt}
 use Rattle.grid.specs.Plane.{
   Frame,
   belt,
@@ -29,6 +29,7 @@ use Rattle.grid.specs.Plane.{
   sub,
   ringNode,
   allowed,
+  poleWidth,
   poleHeight,
   childOf,
   plane,
@@ -43,21 +44,21 @@ abbrev pub frameOf : Cursor → Frame
 frameOf c = cond (c .disc) (disc (c .north)) (belt (c .north) (c .east))
 
 -- from where its cell begins, as large as it is
-abbrev pub boxOf : Cursor → Box
-boxOf c = record { x = c .x; w = c .w; y = c .y; h = c .h }
+abbrev pub polarBox : Cursor → Box
+polarBox c = record { x = c .x; w = c .w; y = c .y; h = c .h }
 
 -- its cell, as the grid has it
 abbrev pub nodeOf : Cursor → Node
-nodeOf c = cond (c .cap) (cap (c .north) (c .h)) (cell (frameOf c) (boxOf c))
+nodeOf c = cond (c .cap) (cap (c .north) (c .h)) (cell (frameOf c) (polarBox c))
 
 -- what was read: the cell, or the place of the first character that is not allowed
-abbrev pub readOf : Cursor → Read Node
-readOf c = cond (c .good) (ok (nodeOf c)) (bad (c .place))
+abbrev pub polarReading : Cursor → Read Node
+polarReading c = cond (c .good) (ok (nodeOf c)) (bad (c .place))
 
 -- N000 or S000, seen as a cap of two degrees
 abbrev pub startOf : Bool → Cursor
 startOf n =
-    record { good = true; place = 4; north = n; cap = true; disc = true; east = true; x = 0; w = TURN; y = 0; h = poleHeight }
+    record { good = true; place = first .length; north = n; cap = true; disc = true; east = true; x = 0; w = poleWidth; y = 0; h = poleHeight }
 
 -- a cell of the disc that goes all round the pole
 pub record AllRound (c : Cursor) : Type 0 where
@@ -72,7 +73,7 @@ Round c = c .cap ≡ true → AllRound c
 
 -- the cursor c has read r about a pole, and reads on at a place
 pub record HasRead (north : Bool) (at : ℕ) (r : Read Node) (c : Cursor) : Type 0 where
-  pub means : readOf c ≡ r
+  pub means : polarReading c ≡ r
   pub placed : c .good ≡ true → c .place ≡ at
   pub sided : c .north ≡ north
   pub round : Round c
@@ -99,19 +100,19 @@ divided c s =
     }
 
 -- the child of the cursor's cell in a column and a row
-abbrev pub childIn : Cursor → Split → ℕ → ℕ → Node
-childIn c s i j =
+abbrev pub polarChild : Cursor → Split → ℕ → ℕ → Node
+polarChild c s i j =
     cond (c .cap)
     (ringNode (c .north) (capPart s (c .h)) (c .h) i j)
-    (cell (frameOf c) (sub (polarPart s (c .w) (c .h)) (boxOf c) i j))
+    (cell (frameOf c) (sub (polarPart s (c .w) (c .h)) (polarBox c) i j))
 
 -- that child, where the division has it; else the character at a place is not allowed
 abbrev pub settledOf : Cursor → Split → ℕ → ℕ → ℕ → Read Node
-settledOf c s i j at = guard at (allowed (c .cap) (divided c s) i j) (ok (childIn c s i j))
+settledOf c s i j at = guard at (allowed (c .cap) (divided c s) i j) (ok (polarChild c s i j))
 
 -- where the next level's characters of the code w lead from the cursor's cell
-unfoldable pub stepOf : Cursor → Split → List ℕ → Read Node
-stepOf c s w = shift (c .place) (childOf s (nodeOf c) (take (s .characters) (drop (c .place) (map digitOf w))))
+unfoldable pub polarStep : Cursor → Split → List ℕ → Read Node
+polarStep c s w = shift (c .place) (childOf s (nodeOf c) (take (s .characters) (drop (c .place) (map digitOf w))))
 
 -- the cursor m has read r, one level of split s on from c
 abbrev pub Moved : Cursor → Split → Read Node → Cursor → Type 0
@@ -124,10 +125,10 @@ unfoldable pub soFar : Bool → ℕ → List ℕ → Read Node
 soFar n l w = shift 4 (follow plane (drop 1 (take l splits)) (pole n) (map digitOf (drop 4 w)))
 
 -- the cursor has read the levels 2 to l of the code w
-abbrev pub Reached : ℕ → List ℕ → Cursor → Type 0
-Reached l w c = HasRead (c .north) (splitAt (l - 1) .length) (soFar (c .north) l w) c
+abbrev pub PolarReached : ℕ → List ℕ → Cursor → Type 0
+PolarReached l w c = HasRead (c .north) (splitAt (l - 1) .length) (soFar (c .north) l w) c
 
 -- what a reader of level l answers
-abbrev pub answerOf : ℕ → Read Node → Answer Cell
-answerOf l (ok n) = accepted (cellAt l n)
-answerOf l (bad p) = refused (wrongCharacter p)
+abbrev pub polarAnswer : ℕ → Read Node → Answer Cell
+polarAnswer l (ok n) = accepted (cellAt l n)
+polarAnswer l (bad p) = refused (wrongCharacter p)
