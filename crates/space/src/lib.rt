@@ -6,7 +6,8 @@ ghost use mathlib.Core.List.{map};
 ghost use Prim.Native.Nat.{_+_, _-_, _≤_, _<_, min};
 ghost use lib.ListN.{length, getD, take};
 ghost use lib.Seq.{sets};
-ghost use Rattle.grid.specs.Answers.{refused, wrongCharacter, planeRead};
+ghost use Rattle.grid.specs.Units.{HALF, QUARTER};
+ghost use Rattle.grid.specs.Answers.{accepted, refused, wrongCharacter, planeRead};
 ghost use Rattle.grid.specs.Laying.{text, laid, written};
 ghost use Rattle.grid.specs.Space.{spaceCodeOf, spaceCellOf, spaceLengths};
 ghost use Rattle.grid.specs.inner.Roads.{squareOf};
@@ -14,27 +15,13 @@ ghost use Rattle.grid.specs.Characters.{digitOf};
 ghost use Rattle.grid.specs.Splits.{splitAt};
 ghost use Rattle.grid.specs.Plane.{cellOf};
 ghost use Rattle.grid.specs.Layers.{radices, product, part};
-ghost use Rattle.grid.specs.Tree.{ok, bad};
-ghost use Rattle.layers.specs.Heights.{layersRead, heightRead, layerOf};
-ghost use Rattle.space.specs.Weave.{placeOne, placeTwo, spread, stored};
+ghost use Rattle.layers.specs.Heights.{heightAnswer, layersAnswer};
+ghost use Rattle.layers.specs.inner.Steps.{layerOf};
+ghost use Rattle.space.specs.inner.Weave.{placeOne, placeTwo, spread, stored};
 ghost use lib.Dec.{ltb};
-ghost use Rattle.space.specs.Space.{
-  spaceText,
-  layeredText,
-  askedSpaceText,
-  Fits,
-  Room,
-  FittingSpace,
-  spaceRead,
-  spaceLevelOf,
-  tenStrands,
-  planePart,
-  heightPart,
-  planePlace,
-  heightPlace,
-  joinedAnswer,
-  Lying,
-};
+ghost use Rattle.space.specs.Space.{spaceText, layeredText, spaceRead};
+ghost use Rattle.space.specs.inner.Asking.{askedSpaceText, SpaceFits, SpaceRoom, FittingSpace};
+ghost use Rattle.space.specs.inner.Parts.{spaceLevelOf, tenStrands, planePart, heightPart, planePlace, heightPlace, joinedAnswer, Lying};
 use grid::Cell;
 use grid::Place;
 use grid::PlaneRead;
@@ -208,7 +195,7 @@ enum AskedSpace {
 
 // Refusal 4, else the layer's side and rise.
 fn over(l: u32, p: Place, layer: i64) -> AskedSpace
-    requires { ⌜ (1 ≤ l) × (l ≤ 10) × (p .x < 1327104000) × (p .y < 663552000) ⌝ }
+    requires { ⌜ (1 ≤ l) × (l ≤ 10) × (p .x < HALF) × (p .y < QUARTER) ⌝ }
     ensures { λ r. ⌜ (askedSpaceText r ≡ layeredText l (squareOf p) layer) × FittingSpace r ⌝ }
 {
     match layers::ask_layer(layer) {
@@ -252,7 +239,7 @@ fn two(level: u32, k: u32, part: &[u8], i: usize, line: &mut [u8], at: usize)
 
 // The plane characters of a code of a level, each at its place in the space code.
 fn lay_plane(level: u32, part: &[u8], line: &mut [u8])
-    requires { ⌜ Room level (now line) × (length (now part) ≡ 20) ⌝ }
+    requires { ⌜ SpaceRoom level (now line) × (length (now part) ≡ 20) ⌝ }
     ensures { λ _. ⌜ now (line .exit) ≡ spread (placeOne tenStrands) 0 (take (splitAt (level - 1) .length) (now (part .entry))) (now (line .entry)) ⌝ }
 {
     one(level, 0, part, 0, line, 0);
@@ -271,7 +258,7 @@ fn lay_plane(level: u32, part: &[u8], line: &mut [u8])
 
 // The height characters of a code of a level, each at its place in the space code.
 fn lay_height(level: u32, part: &[u8], line: &mut [u8])
-    requires { ⌜ Room level (now line) × (length (now part) ≡ 12) ⌝ }
+    requires { ⌜ SpaceRoom level (now line) × (length (now part) ≡ 12) ⌝ }
     ensures { λ _. ⌜ now (line .exit) ≡ spread (placeTwo tenStrands) 0 (take (2 + level) (now (part .entry))) (now (line .entry)) ⌝ }
 {
     one(level, 0, part, 0, line, 1);
@@ -289,7 +276,7 @@ fn lay_height(level: u32, part: &[u8], line: &mut [u8])
 
 // Writes the space code from the line's first byte on: the plane characters and the height characters, built apart and laid each at its place.
 fn put(l: u32, p: Place, above: bool, rise: u32, line: &mut [u8])
-    requires { ⌜ Fits l p rise × (getD spaceLengths (l - 1) 0 ≤ length (now line)) ⌝ }
+    requires { ⌜ SpaceFits l p rise × (getD spaceLengths (l - 1) 0 ≤ length (now line)) ⌝ }
     ensures { λ _. ⌜ now (line .exit) ≡ sets (now (line .entry)) 0 (spaceCodeOf l (squareOf p, layerOf (product radices) above rise)) ⌝ }
 {
     let mut flat = [0u8; 20];
@@ -302,7 +289,7 @@ fn put(l: u32, p: Place, above: bool, rise: u32, line: &mut [u8])
 
 // Lays the space code into the line from `at` on, if there is room: refusal 5, else the number of bytes.
 fn lay(l: u32, p: Place, above: bool, rise: u32, line: &mut [u8], at: usize) -> Written
-    requires { ⌜ Fits l p rise ⌝ }
+    requires { ⌜ SpaceFits l p rise ⌝ }
     ensures { λ r. ⌜ (written r, now (line .exit)) ≡ laid (text (spaceCodeOf l (squareOf p, layerOf (product radices) above rise))) (now (line .entry)) at ⌝ }
 {
     let n = length_of(l);
@@ -356,7 +343,7 @@ fn lesser(a: usize, b: usize) -> usize
 // The plane's answer over layers that were read: the cell with them, or the bad plane character.
 fn over_layers(a: PlaneRead, above: bool, low: u32, thick: u32) -> SpaceRead
     requires { ⌜ low < product radices ⌝ }
-    ensures { λ r. ⌜ spaceRead r ≡ joinedAnswer (planeRead a) (ok (part above low thick)) ⌝ }
+    ensures { λ r. ⌜ spaceRead r ≡ joinedAnswer (planeRead a) (accepted (part above low thick)) ⌝ }
 {
     match a {
         PlaneRead::Found(c) => SpaceRead::Found(SpaceCell {
@@ -370,7 +357,7 @@ fn over_layers(a: PlaneRead, above: bool, low: u32, thick: u32) -> SpaceRead
 
 // A bad height character, unless a bad plane character stands before it.
 fn over_bad(a: PlaneRead, p: usize) -> SpaceRead
-    ensures { λ r. ⌜ spaceRead r ≡ joinedAnswer (planeRead a) (bad p) ⌝ }
+    ensures { λ r. ⌜ spaceRead r ≡ joinedAnswer (planeRead a) (refused (wrongCharacter p)) ⌝ }
 {
     let high = height_place(p);
     match a {
@@ -382,7 +369,7 @@ fn over_bad(a: PlaneRead, p: usize) -> SpaceRead
 // Both answers together.
 fn joined(a: PlaneRead, h: LayersRead) -> SpaceRead
     requires { ⌜ Lying h ⌝ }
-    ensures { λ r. ⌜ spaceRead r ≡ joinedAnswer (planeRead a) (layersRead h) ⌝ }
+    ensures { λ r. ⌜ spaceRead r ≡ joinedAnswer (planeRead a) (layersAnswer h) ⌝ }
 {
     match h {
         LayersRead::Found(above, low, thick) => over_layers(a, above, low, thick),
@@ -403,7 +390,7 @@ fn plane_of(level: u32, code: &[u8]) -> PlaneRead
 // The height characters of a space code, read.
 fn height_of(level: u32, code: &[u8]) -> LayersRead
     requires { ⌜ (1 ≤ level) × (level ≤ 10) ⌝ }
-    ensures { λ r. ⌜ layersRead r ≡ heightRead radices level (map digitOf (take (2 + level) (heightPart (now (code .entry))))) ⌝ }
+    ensures { λ r. ⌜ layersAnswer r ≡ heightAnswer radices level (map digitOf (take (2 + level) (heightPart (now (code .entry))))) ⌝ }
 {
     let h = height_part(code);
     let n = 2 + level as usize;

@@ -1,6 +1,6 @@
 -- `space::height_part` meets its contract. Assumes nothing.
 use mathlib.Core.Path.{refl}
-use Rattle.space.specs.Weave.{placeIn}
+use Rattle.space.specs.inner.Weave.{strandPlace}
 use borrow.Author.Needs.{needs}
 use Rattle.space.proofs.height_part.Statement.{statement}
 use Rattle.space.proofs.height_part.Tie as tie
@@ -42,7 +42,7 @@ byte-at-requires-12 : tie.Need-byte-at-requires-12
 byte-at-requires-12 c κs = search needs
 
 returns : tie.Need-returns
-unfolding placeIn
+unfolding strandPlace
 returns c = rw (c .before .before .before .before .before .before .before .before .before .before .before .byte-at .ensures, c .before .before .before .before .before .before .before .before .before .before .byte-at2 .ensures, c .before .before .before .before .before .before .before .before .before .byte-at3 .ensures, c .before .before .before .before .before .before .before .before .byte-at4 .ensures, c .before .before .before .before .before .before .before .byte-at5 .ensures, c .before .before .before .before .before .before .byte-at6 .ensures, c .before .before .before .before .before .byte-at7 .ensures, c .before .before .before .before .byte-at8 .ensures, c .before .before .before .byte-at9 .ensures, c .before .before .byte-at10 .ensures, c .before .byte-at11 .ensures, c .byte-at12 .ensures) refl
 
 pub height-part-spec : {M : Type 1} → statement M

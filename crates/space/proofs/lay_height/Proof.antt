@@ -3,8 +3,8 @@ use mathlib.Core.Path.{refl}
 use mathlib.Core.List.{List}
 use Prim.Native.Nat.{ℕ, _+_}
 use native.Mathlib.Omega.{arith}
-use Rattle.space.specs.Weave.{placeIn, placeTwo}
-use Rattle.space.specs.Space.{tenStrands}
+use Rattle.space.specs.inner.Weave.{strandPlace, placeTwo}
+use Rattle.space.specs.inner.Parts.{tenStrands}
 use Rattle.space.proofs.Spreading.{Upto, upto-none, upto-one, upto-two, upto-length, upto-all, within, room-at}
 use Rattle.space.proofs.lay_height.Statement.{statement}
 use Rattle.space.proofs.lay_height.Tie as tie
@@ -18,67 +18,67 @@ abbrev Stage : tie.Start → ℕ → List ℕ → Type 0
 Stage s j l = Upto (placeTwo tenStrands) many (s .args .part .now) (s .args .line .now) (s .args .level) j l
 
 stage-1 : (c : tie.After-one) → Stage (c .before .before .before .before) 1 (c .one .last .1 .1 .1 .1 .0)
-unfolding placeIn
+unfolding strandPlace
 stage-1 c =
     let s = c .before .before .before .before in
     upto-one (placeTwo tenStrands) many _ _ _ (s .pre .0) (s .pre .1) 0 0 refl refl (upto-none (placeTwo tenStrands) many _ _ _) (c .one .ensures)
 
 stage-2 : (c : tie.After-two) → Stage (c .before .before .before .before .before .before .before .before) 3 (c .two .last .1 .1 .1 .1 .0)
-unfolding placeIn
+unfolding strandPlace
 stage-2 c =
     let s = c .before .before .before .before .before .before .before .before in
     upto-two (placeTwo tenStrands) many _ _ _ (s .pre .0) (s .pre .1) 0 1 refl refl refl (stage-1 (c .before .before .before .before)) (c .two .ensures)
 
 stage-3 : (c : tie.After-one2) → Stage (c .before .before .before .before .before .before .before .before .before .before .before .before) 4 (c .one2 .last .1 .1 .1 .1 .0)
-unfolding placeIn
+unfolding strandPlace
 stage-3 c =
     let s = c .before .before .before .before .before .before .before .before .before .before .before .before in
     upto-one (placeTwo tenStrands) many _ _ _ (s .pre .0) (s .pre .1) 1 3 refl refl (stage-2 (c .before .before .before .before)) (c .one2 .ensures)
 
 stage-4 : (c : tie.After-one3) → Stage (c .before .before .before .before .before .before .before .before .before .before .before .before .before .before .before .before) 5 (c .one3 .last .1 .1 .1 .1 .0)
-unfolding placeIn
+unfolding strandPlace
 stage-4 c =
     let s = c .before .before .before .before .before .before .before .before .before .before .before .before .before .before .before .before in
     upto-one (placeTwo tenStrands) many _ _ _ (s .pre .0) (s .pre .1) 2 4 refl refl (stage-3 (c .before .before .before .before)) (c .one3 .ensures)
 
 stage-5 : (c : tie.After-one4) → Stage (c .before .before .before .before .before .before .before .before .before .before .before .before .before .before .before .before .before .before .before .before) 6 (c .one4 .last .1 .1 .1 .1 .0)
-unfolding placeIn
+unfolding strandPlace
 stage-5 c =
     let s = c .before .before .before .before .before .before .before .before .before .before .before .before .before .before .before .before .before .before .before .before in
     upto-one (placeTwo tenStrands) many _ _ _ (s .pre .0) (s .pre .1) 3 5 refl refl (stage-4 (c .before .before .before .before)) (c .one4 .ensures)
 
 stage-6 : (c : tie.After-one5) → Stage (c .before .before .before .before .before .before .before .before .before .before .before .before .before .before .before .before .before .before .before .before .before .before .before .before) 7 (c .one5 .last .1 .1 .1 .1 .0)
-unfolding placeIn
+unfolding strandPlace
 stage-6 c =
     let s = c .before .before .before .before .before .before .before .before .before .before .before .before .before .before .before .before .before .before .before .before .before .before .before .before in
     upto-one (placeTwo tenStrands) many _ _ _ (s .pre .0) (s .pre .1) 4 6 refl refl (stage-5 (c .before .before .before .before)) (c .one5 .ensures)
 
 stage-7 : (c : tie.After-one6) → Stage (c .before .before .before .before .before .before .before .before .before .before .before .before .before .before .before .before .before .before .before .before .before .before .before .before .before .before .before .before) 8 (c .one6 .last .1 .1 .1 .1 .0)
-unfolding placeIn
+unfolding strandPlace
 stage-7 c =
     let s = c .before .before .before .before .before .before .before .before .before .before .before .before .before .before .before .before .before .before .before .before .before .before .before .before .before .before .before .before in
     upto-one (placeTwo tenStrands) many _ _ _ (s .pre .0) (s .pre .1) 5 7 refl refl (stage-6 (c .before .before .before .before)) (c .one6 .ensures)
 
 stage-8 : (c : tie.After-one7) → Stage (c .before .before .before .before .before .before .before .before .before .before .before .before .before .before .before .before .before .before .before .before .before .before .before .before .before .before .before .before .before .before .before .before) 9 (c .one7 .last .1 .1 .1 .1 .0)
-unfolding placeIn
+unfolding strandPlace
 stage-8 c =
     let s = c .before .before .before .before .before .before .before .before .before .before .before .before .before .before .before .before .before .before .before .before .before .before .before .before .before .before .before .before .before .before .before .before in
     upto-one (placeTwo tenStrands) many _ _ _ (s .pre .0) (s .pre .1) 6 8 refl refl (stage-7 (c .before .before .before .before)) (c .one7 .ensures)
 
 stage-9 : (c : tie.After-one8) → Stage (c .before .before .before .before .before .before .before .before .before .before .before .before .before .before .before .before .before .before .before .before .before .before .before .before .before .before .before .before .before .before .before .before .before .before .before .before) 10 (c .one8 .last .1 .1 .1 .1 .0)
-unfolding placeIn
+unfolding strandPlace
 stage-9 c =
     let s = c .before .before .before .before .before .before .before .before .before .before .before .before .before .before .before .before .before .before .before .before .before .before .before .before .before .before .before .before .before .before .before .before .before .before .before .before in
     upto-one (placeTwo tenStrands) many _ _ _ (s .pre .0) (s .pre .1) 7 9 refl refl (stage-8 (c .before .before .before .before)) (c .one8 .ensures)
 
 stage-10 : (c : tie.After-one9) → Stage (c .before .before .before .before .before .before .before .before .before .before .before .before .before .before .before .before .before .before .before .before .before .before .before .before .before .before .before .before .before .before .before .before .before .before .before .before .before .before .before .before) 11 (c .one9 .last .1 .1 .1 .1 .0)
-unfolding placeIn
+unfolding strandPlace
 stage-10 c =
     let s = c .before .before .before .before .before .before .before .before .before .before .before .before .before .before .before .before .before .before .before .before .before .before .before .before .before .before .before .before .before .before .before .before .before .before .before .before .before .before .before .before in
     upto-one (placeTwo tenStrands) many _ _ _ (s .pre .0) (s .pre .1) 8 10 refl refl (stage-9 (c .before .before .before .before)) (c .one9 .ensures)
 
 stage-11 : (c : tie.After-one10) → Stage (c .before .before .before .before .before .before .before .before .before .before .before .before .before .before .before .before .before .before .before .before .before .before .before .before .before .before .before .before .before .before .before .before .before .before .before .before .before .before .before .before .before .before .before .before) 12 (c .one10 .last .1 .1 .1 .1 .0)
-unfolding placeIn
+unfolding strandPlace
 stage-11 c =
     let s = c .before .before .before .before .before .before .before .before .before .before .before .before .before .before .before .before .before .before .before .before .before .before .before .before .before .before .before .before .before .before .before .before .before .before .before .before .before .before .before .before .before .before .before .before in
     upto-one (placeTwo tenStrands) many _ _ _ (s .pre .0) (s .pre .1) 9 11 refl refl (stage-10 (c .before .before .before .before)) (c .one10 .ensures)

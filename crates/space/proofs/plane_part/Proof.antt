@@ -1,6 +1,6 @@
 -- `space::plane_part` meets its contract. Assumes nothing.
 use mathlib.Core.Path.{refl}
-use Rattle.space.specs.Weave.{placeIn}
+use Rattle.space.specs.inner.Weave.{strandPlace}
 use borrow.Author.Needs.{needs}
 use Rattle.space.proofs.plane_part.Statement.{statement}
 use Rattle.space.proofs.plane_part.Tie as tie
@@ -66,7 +66,7 @@ byte-at-requires-20 : tie.Need-byte-at-requires-20
 byte-at-requires-20 c κs = search needs
 
 returns : tie.Need-returns
-unfolding placeIn
+unfolding strandPlace
 returns c = rw (c .before .before .before .before .before .before .before .before .before .before .before .before .before .before .before .before .before .before .before .byte-at .ensures, c .before .before .before .before .before .before .before .before .before .before .before .before .before .before .before .before .before .before .byte-at2 .ensures, c .before .before .before .before .before .before .before .before .before .before .before .before .before .before .before .before .before .byte-at3 .ensures, c .before .before .before .before .before .before .before .before .before .before .before .before .before .before .before .before .byte-at4 .ensures, c .before .before .before .before .before .before .before .before .before .before .before .before .before .before .before .byte-at5 .ensures, c .before .before .before .before .before .before .before .before .before .before .before .before .before .before .byte-at6 .ensures, c .before .before .before .before .before .before .before .before .before .before .before .before .before .byte-at7 .ensures, c .before .before .before .before .before .before .before .before .before .before .before .before .byte-at8 .ensures, c .before .before .before .before .before .before .before .before .before .before .before .byte-at9 .ensures, c .before .before .before .before .before .before .before .before .before .before .byte-at10 .ensures, c .before .before .before .before .before .before .before .before .before .byte-at11 .ensures, c .before .before .before .before .before .before .before .before .byte-at12 .ensures, c .before .before .before .before .before .before .before .byte-at13 .ensures, c .before .before .before .before .before .before .byte-at14 .ensures, c .before .before .before .before .before .byte-at15 .ensures, c .before .before .before .before .byte-at16 .ensures, c .before .before .before .byte-at17 .ensures, c .before .before .byte-at18 .ensures, c .before .byte-at19 .ensures, c .byte-at20 .ensures) refl
 
 pub plane-part-spec : {M : Type 1} → statement M
