@@ -90,62 +90,7 @@ fn length_of(level: u32) -> usize
     plane::length_of(level) + 2 + level as usize
 }
 
-// ---- taken apart
-
-// The byte at a place, 0 past the end.
-fn byte_at(code: &[u8], i: usize) -> u8
-    ensures { λ r. ⌜ r ≡ getD (now (code .entry)) i 0 ⌝ }
-{
-    if i < code.len() { code[i] } else { 0 }
-}
-
-// The plane characters of a space code.
-fn plane_part(code: &[u8]) -> [u8; 20]
-    ensures { λ r. ⌜ r ≡ planePart (now (code .entry)) ⌝ }
-{
-    [
-        byte_at(code, 0),
-        byte_at(code, 2),
-        byte_at(code, 3),
-        byte_at(code, 4),
-        byte_at(code, 7),
-        byte_at(code, 8),
-        byte_at(code, 10),
-        byte_at(code, 12),
-        byte_at(code, 13),
-        byte_at(code, 15),
-        byte_at(code, 16),
-        byte_at(code, 18),
-        byte_at(code, 20),
-        byte_at(code, 21),
-        byte_at(code, 23),
-        byte_at(code, 24),
-        byte_at(code, 26),
-        byte_at(code, 27),
-        byte_at(code, 29),
-        byte_at(code, 30),
-    ]
-}
-
-// The height characters of a space code.
-fn height_part(code: &[u8]) -> [u8; 12]
-    ensures { λ r. ⌜ r ≡ heightPart (now (code .entry)) ⌝ }
-{
-    [
-        byte_at(code, 1),
-        byte_at(code, 5),
-        byte_at(code, 6),
-        byte_at(code, 9),
-        byte_at(code, 11),
-        byte_at(code, 14),
-        byte_at(code, 17),
-        byte_at(code, 19),
-        byte_at(code, 22),
-        byte_at(code, 25),
-        byte_at(code, 28),
-        byte_at(code, 31),
-    ]
-}
+// ---- places
 
 // Where a plane character, or a height character, stands in a space code.
 const PLANE_PLACES: [u8; 20] = [
@@ -173,16 +118,89 @@ const PLANE_PLACES: [u8; 20] = [
 
 const HEIGHT_PLACES: [u8; 12] = [1, 5, 6, 9, 11, 14, 17, 19, 22, 25, 28, 31];
 
+// That place for the plane character p; 0 for a place that there is not.
 fn plane_place(p: usize) -> usize
     ensures { λ r. ⌜ r ≡ planePlace p ⌝ }
 {
     if p < 20 { PLANE_PLACES[p] as usize } else { 0 }
 }
 
+// And for the height character p.
 fn height_place(p: usize) -> usize
     ensures { λ r. ⌜ r ≡ heightPlace p ⌝ }
 {
     if p < 12 { HEIGHT_PLACES[p] as usize } else { 0 }
+}
+
+// ---- taken apart
+
+// The byte at a place, 0 past the end.
+fn byte_at(code: &[u8], i: usize) -> u8
+    ensures { λ r. ⌜ r ≡ getD (now (code .entry)) i 0 ⌝ }
+{
+    if i < code.len() { code[i] } else { 0 }
+}
+
+// The plane character p of a space code.
+fn plane_byte(code: &[u8], p: usize) -> u8
+    ensures { λ r. ⌜ r ≡ getD (now (code .entry)) (planePlace p) 0 ⌝ }
+{
+    byte_at(code, plane_place(p))
+}
+
+// The height character p of a space code.
+fn height_byte(code: &[u8], p: usize) -> u8
+    ensures { λ r. ⌜ r ≡ getD (now (code .entry)) (heightPlace p) 0 ⌝ }
+{
+    byte_at(code, height_place(p))
+}
+
+// The plane characters of a space code.
+fn plane_part(code: &[u8]) -> [u8; 20]
+    ensures { λ r. ⌜ r ≡ planePart (now (code .entry)) ⌝ }
+{
+    [
+        plane_byte(code, 0),
+        plane_byte(code, 1),
+        plane_byte(code, 2),
+        plane_byte(code, 3),
+        plane_byte(code, 4),
+        plane_byte(code, 5),
+        plane_byte(code, 6),
+        plane_byte(code, 7),
+        plane_byte(code, 8),
+        plane_byte(code, 9),
+        plane_byte(code, 10),
+        plane_byte(code, 11),
+        plane_byte(code, 12),
+        plane_byte(code, 13),
+        plane_byte(code, 14),
+        plane_byte(code, 15),
+        plane_byte(code, 16),
+        plane_byte(code, 17),
+        plane_byte(code, 18),
+        plane_byte(code, 19),
+    ]
+}
+
+// The height characters of a space code.
+fn height_part(code: &[u8]) -> [u8; 12]
+    ensures { λ r. ⌜ r ≡ heightPart (now (code .entry)) ⌝ }
+{
+    [
+        height_byte(code, 0),
+        height_byte(code, 1),
+        height_byte(code, 2),
+        height_byte(code, 3),
+        height_byte(code, 4),
+        height_byte(code, 5),
+        height_byte(code, 6),
+        height_byte(code, 7),
+        height_byte(code, 8),
+        height_byte(code, 9),
+        height_byte(code, 10),
+        height_byte(code, 11),
+    ]
 }
 
 // ---- writing
