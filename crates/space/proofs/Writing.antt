@@ -37,10 +37,10 @@ use Rattle.plane.specs.declared.Asked.{Asked}
 use Rattle.plane.specs.declared.Asked.the-variants as plane-as
 use Rattle.plane.specs.Text.{levelNumber, planeText, askedText, Fitting, Same}
 use Rattle.plane.proofs.Reading.{code-length, on-globe}
-use Rattle.space.specs.inner.Weave.{weave, placeOne, placeTwo, spread}
+use Rattle.space.specs.inner.Weave.{weave, spread}
 use Rattle.space.specs.Space.{spaceText, layeredText}
 use Rattle.space.specs.inner.Asking.{askedSpaceText, SpaceFits, FittingSpace}
-use Rattle.space.specs.inner.Parts.{tenStrands}
+use Rattle.space.specs.inner.Parts.{tenStrands, planePlace, heightPlace}
 use Rattle.space.specs.declared.AskedSpace.{AskedSpace}
 use Rattle.space.specs.declared.AskedSpace.the-variants as space-as
 use Rattle.space.proofs.Weaving.{code-woven, weave-map}
@@ -65,8 +65,8 @@ take-stored l w {n} e h = ap (take n) (sets-eq w l 0 (omega arith)) ∙ take-at 
 
 -- the plane code and the height characters, built apart and stored each at its place, are the space code
 pub put-code : (l : ℕ) (p : Place) (above : Bool) (n : ℕ) (fp fh line : List ℕ) {flat high mid last : List ℕ} → SpaceFits l p n → length fp ≡ 20 → length fh ≡ 12 → getD spaceLengths (l - 1) 0 ≤ length line
-    → flat ≡ sets fp 0 (codeOf l (squareOf p)) → mid ≡ spread (placeOne tenStrands) 0 (take (splitAt (l - 1) .length) flat) line
-    → high ≡ sets fh 0 (map charOf (heightDigits radices l (layerOf top above n))) → last ≡ spread (placeTwo tenStrands) 0 (take (2 + l) high) mid
+    → flat ≡ sets fp 0 (codeOf l (squareOf p)) → mid ≡ spread planePlace 0 (take (splitAt (l - 1) .length) flat) line
+    → high ≡ sets fh 0 (map charOf (heightDigits radices l (layerOf top above n))) → last ≡ spread heightPlace 0 (take (2 + l) high) mid
     → last ≡ sets line 0 (spaceCodeOf l (squareOf p, layerOf top above n))
 put-code l p above n fp fh line f lp lh room ep em eh el =
     let o = on-grid-at p l n above f in

@@ -17,11 +17,11 @@ ghost use Rattle.grid.specs.Plane.{cellOf};
 ghost use Rattle.grid.specs.Layers.{radices, product, part};
 ghost use Rattle.layers.specs.Heights.{heightAnswer, layersAnswer};
 ghost use Rattle.layers.specs.inner.Steps.{layerOf};
-ghost use Rattle.space.specs.inner.Weave.{placeOne, placeTwo, spread, stored};
+ghost use Rattle.space.specs.inner.Weave.{spread, stored};
 ghost use lib.Dec.{ltb};
 ghost use Rattle.space.specs.Space.{spaceText, layeredText, spaceRead};
 ghost use Rattle.space.specs.inner.Asking.{askedSpaceText, SpaceFits, SpaceRoom, FittingSpace};
-ghost use Rattle.space.specs.inner.Parts.{spaceLevelOf, tenStrands, planePart, heightPart, planePlace, heightPlace, joinedAnswer, Lying};
+ghost use Rattle.space.specs.inner.Parts.{spaceLevelOf, planePart, heightPart, planePlace, heightPlace, joinedAnswer, Lying};
 use grid::Cell;
 use grid::Place;
 use grid::PlaneRead;
@@ -243,53 +243,91 @@ fn one(level: u32, k: u32, part: &[u8], i: usize, line: &mut [u8], at: usize)
     line[at] = part[i];
 }
 
-// That character and the next, side by side.
-fn two(level: u32, k: u32, part: &[u8], i: usize, line: &mut [u8], at: usize)
-    requires { ⌜ (i + 1 < length (now part)) × (k < level → at + 1 < length (now line)) ⌝ }
-    ensures { λ _. ⌜ now (line .exit) ≡ stored (ltb k level) (at + 1) (getD (now (part .entry)) (i + 1) 0) (stored (ltb k level) at (getD (now (part .entry)) i 0) (now (line .entry))) ⌝ }
+// That character and the next, at two places.
+fn two(level: u32, k: u32, part: &[u8], i: usize, line: &mut [u8], at: usize, then: usize)
+    requires { ⌜ (i + 1 < length (now part)) × (k < level → at < length (now line)) × (k < level → then < length (now line)) ⌝ }
+    ensures { λ _. ⌜ now (line .exit) ≡ stored (ltb k level) then (getD (now (part .entry)) (i + 1) 0) (stored (ltb k level) at (getD (now (part .entry)) i 0) (now (line .entry))) ⌝ }
 {
     if level <= k {
         return;
     }
     line[at] = part[i];
-    line[at + 1] = part[i + 1];
+    line[then] = part[i + 1];
+}
+
+// The plane character i at its place in the space code; and that one and the next.
+fn plane_one(level: u32, k: u32, part: &[u8], i: usize, line: &mut [u8])
+    requires { ⌜ (i < length (now part)) × (k < level → planePlace i < length (now line)) ⌝ }
+    ensures { λ _. ⌜ now (line .exit) ≡ stored (ltb k level) (planePlace i) (getD (now (part .entry)) i 0) (now (line .entry)) ⌝ }
+{
+    one(level, k, part, i, line, plane_place(i));
+}
+
+fn plane_two(level: u32, k: u32, part: &[u8], i: usize, line: &mut [u8])
+    requires { ⌜ (i + 1 < length (now part)) × (k < level → planePlace i < length (now line)) × (k < level → planePlace (i + 1) < length (now line)) ⌝ }
+    ensures { λ _. ⌜ now (line .exit) ≡ stored (ltb k level) (planePlace (i + 1)) (getD (now (part .entry)) (i + 1) 0) (stored (ltb k level) (planePlace i) (getD (now (part .entry)) i 0) (now (line .entry))) ⌝ }
+{
+    two(level, k, part, i, line, plane_place(i), plane_place(i + 1));
 }
 
 // The plane characters of a code of a level, each at its place in the space code.
 fn lay_plane(level: u32, part: &[u8], line: &mut [u8])
     requires { ⌜ SpaceRoom level (now line) × (length (now part) ≡ 20) ⌝ }
-    ensures { λ _. ⌜ now (line .exit) ≡ spread (placeOne tenStrands) 0 (take (splitAt (level - 1) .length) (now (part .entry))) (now (line .entry)) ⌝ }
+    ensures { λ _. ⌜ now (line .exit) ≡ spread planePlace 0 (take (splitAt (level - 1) .length) (now (part .entry))) (now (line .entry)) ⌝ }
 {
-    one(level, 0, part, 0, line, 0);
-    one(level, 0, part, 1, line, 2);
-    two(level, 0, part, 2, line, 3);
-    two(level, 1, part, 4, line, 7);
-    one(level, 2, part, 6, line, 10);
-    two(level, 3, part, 7, line, 12);
-    two(level, 4, part, 9, line, 15);
-    one(level, 5, part, 11, line, 18);
-    two(level, 6, part, 12, line, 20);
-    two(level, 7, part, 14, line, 23);
-    two(level, 8, part, 16, line, 26);
-    two(level, 9, part, 18, line, 29);
+    plane_one(level, 0, part, 0, line);
+    plane_one(level, 0, part, 1, line);
+    plane_two(level, 0, part, 2, line);
+    plane_two(level, 1, part, 4, line);
+    plane_one(level, 2, part, 6, line);
+    plane_two(level, 3, part, 7, line);
+    plane_two(level, 4, part, 9, line);
+    plane_one(level, 5, part, 11, line);
+    plane_two(level, 6, part, 12, line);
+    plane_two(level, 7, part, 14, line);
+    plane_two(level, 8, part, 16, line);
+    plane_two(level, 9, part, 18, line);
+}
+
+// The height character i at its place in the space code; and that one and the next.
+fn height_one(level: u32, k: u32, part: &[u8], i: usize, line: &mut [u8])
+    requires { ⌜ (i < length (now part)) × (k < level → heightPlace i < length (now line)) ⌝ }
+    ensures { λ _. ⌜ now (line .exit) ≡ stored (ltb k level) (heightPlace i) (getD (now (part .entry)) i 0) (now (line .entry)) ⌝ }
+{
+    one(level, k, part, i, line, height_place(i));
+}
+
+fn height_two(level: u32, k: u32, part: &[u8], i: usize, line: &mut [u8])
+    requires { ⌜ (i + 1 < length (now part)) × (k < level → heightPlace i < length (now line)) × (k < level → heightPlace (i + 1) < length (now line)) ⌝ }
+    ensures { λ _. ⌜ now (line .exit) ≡ stored (ltb k level) (heightPlace (i + 1)) (getD (now (part .entry)) (i + 1) 0) (stored (ltb k level) (heightPlace i) (getD (now (part .entry)) i 0) (now (line .entry))) ⌝ }
+{
+    two(
+        level,
+        k,
+        part,
+        i,
+        line,
+        height_place(i),
+        height_place(i + 1),
+    );
 }
 
 // The height characters of a code of a level, each at its place in the space code.
 fn lay_height(level: u32, part: &[u8], line: &mut [u8])
     requires { ⌜ SpaceRoom level (now line) × (length (now part) ≡ 12) ⌝ }
-    ensures { λ _. ⌜ now (line .exit) ≡ spread (placeTwo tenStrands) 0 (take (2 + level) (now (part .entry))) (now (line .entry)) ⌝ }
+    ensures { λ _. ⌜ now (line .exit) ≡ spread heightPlace 0 (take (2 + level) (now (part .entry))) (now (line .entry)) ⌝ }
 {
-    one(level, 0, part, 0, line, 1);
-    two(level, 0, part, 1, line, 5);
-    one(level, 1, part, 3, line, 9);
-    one(level, 2, part, 4, line, 11);
-    one(level, 3, part, 5, line, 14);
-    one(level, 4, part, 6, line, 17);
-    one(level, 5, part, 7, line, 19);
-    one(level, 6, part, 8, line, 22);
-    one(level, 7, part, 9, line, 25);
-    one(level, 8, part, 10, line, 28);
-    one(level, 9, part, 11, line, 31);
+    height_one(level, 0, part, 0, line);
+    height_two(level, 0, part, 1, line);
+    height_one(level, 1, part, 3, line);
+    height_one(level, 2, part, 4, line);
+    height_one(level, 3, part, 5, line);
+    height_one(level, 4, part, 6, line);
+    height_one(level, 5, part, 7, line);
+    height_one(level, 6, part, 8, line);
+    height_one(level, 7, part, 9, line);
+    height_one(level, 8, part, 10, line);
+    height_one(level, 9, part, 11, line);
 }
 
 // Writes the space code from the line's first byte on: the plane characters and the height characters, built apart and laid each at its place.
