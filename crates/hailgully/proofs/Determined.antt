@@ -1,9 +1,10 @@
--- Two results that one contract allows are equal: for each public call of the library, and for its C form.
+-- Two results that one contract allows are equal: for each public call of the library, and for its C form. Each contract stands here as it does in the code.
 -- Assumes nothing.
 use mathlib.Core.Path.{_≡_, sym, _∙_}
 use mathlib.Core.List.{List}
 use Prim.Native.Nat.{ℕ}
 use lib.IntN.{ℤ}
+use lib.Ieee.{Float}
 use Rattle.grid.specs.declared.Cell.{Cell}
 use Rattle.grid.specs.declared.PlaneRead.{PlaneRead}
 use Rattle.grid.specs.declared.Written.{Written}
@@ -18,32 +19,37 @@ use Rattle.space.specs.declared.SpaceRead.{SpaceRead}
 use Rattle.space.specs.declared.SpaceRead.the-variants as space-as
 use Rattle.space.specs.Space.{spaceText, spaceRead}
 use Rattle.reference.specs.Text.{referenceText, targetText}
+use Rattle.arcseconds.specs.declared.UnitsRead.{UnitsRead}
 use Rattle.arcseconds.specs.declared.BoxRead.{BoxRead}
+use Rattle.arcseconds.specs.Readings.{unitsOf, unitsRead}
 use Rattle.arcseconds.specs.Boxes.{BoxSays}
 use Rattle.arcseconds.proofs.Exact.{one-exactly}
 use Rattle.arcseconds.proofs.Theorems as arc
 use Rattle.hailgully.specs.declared.HgBox.{HgBox}
+use Rattle.hailgully.specs.declared.HgPlaneCell.{HgPlaneCell}
 use Rattle.hailgully.specs.declared.HgRefusal.{HgRefusal}
-use Rattle.hailgully.specs.Results.{BoxIs, BoxFor}
+use Rattle.hailgully.specs.declared.HgSpaceCell.{HgSpaceCell}
+use Rattle.hailgully.specs.declared.HgUnits.{HgUnits}
+use Rattle.hailgully.specs.declared.HgWritten.{HgWritten}
+use Rattle.hailgully.specs.Results.{writtenOf, planeCellOf, spaceCellFor, unitsFor, BoxIs, BoxFor}
+use Rattle.hailgully.specs.Determined.{Determined}
 
--- a writer that lays the text t down: its answer, and every byte of the line
-abbrev pub Determined : Text → List ℕ → ℕ → Type 0
-Determined t line at = (a b : Written) (k l : List ℕ) → (written a, k) ≡ laid t line at → (written b, l) ≡ laid t line at → (a ≡ b) × (k ≡ l)
+-- ---- the library's calls
 
-pub plane-write : (level longitude latitude : ℤ) (line : List ℕ) (at : ℕ) → Determined (planeText level longitude latitude) line at
-plane-write level longitude latitude line at = laid-one (planeText level longitude latitude) line at
+-- a writer that lays the text t down
+written-one : (t : Text) (line : List ℕ) (at : ℕ) → Determined (λ (r : Written × List ℕ). (written (r .0), r .1) ≡ laid t line at)
+written-one t line at a b e f = let w = laid-one t line at (a .0) (b .0) (a .1) (b .1) e f in λ j. (w .0 j, w .1 j)
 
-pub space-write : (level longitude latitude layer : ℤ) (line : List ℕ) (at : ℕ) → Determined (spaceText level longitude latitude layer) line at
-space-write level longitude latitude layer line at = laid-one (spaceText level longitude latitude layer) line at
+pub plane-write : (level longitude latitude : ℤ) (line : List ℕ) (at : ℕ)
+    → Determined (λ (r : Written × List ℕ). (written (r .0), r .1) ≡ laid (planeText level longitude latitude) line at)
+plane-write level longitude latitude line at = written-one (planeText level longitude latitude) line at
 
-pub reference-write : (base target line : List ℕ) (at : ℕ) → Determined (referenceText base target) line at
-reference-write base target line at = laid-one (referenceText base target) line at
-
-pub reference-read : (code line : List ℕ) (at : ℕ) → Determined (targetText code) line at
-reference-read code line at = laid-one (targetText code) line at
-
-pub plane-read : (code : List ℕ) (a b : PlaneRead) → planeRead a ≡ cellOf code → planeRead b ≡ cellOf code → a ≡ b
+pub plane-read : (code : List ℕ) → Determined (λ (r : PlaneRead). planeRead r ≡ cellOf code)
 plane-read code a b e f = plane-read-one a b (e ∙ sym f)
+
+pub space-write : (level longitude latitude layer : ℤ) (line : List ℕ) (at : ℕ)
+    → Determined (λ (r : Written × List ℕ). (written (r .0), r .1) ≡ laid (spaceText level longitude latitude layer) line at)
+space-write level longitude latitude layer line at = written-one (spaceText level longitude latitude layer) line at
 
 space-read-one : (a b : SpaceRead) → spaceRead a ≡ spaceRead b → a ≡ b
 space-read-one (space-as.Found c) (space-as.Found d) e = cc
@@ -51,14 +57,61 @@ space-read-one (space-as.Found c) (space-as.Refused r) e = clash (cc)
 space-read-one (space-as.Refused r) (space-as.Found d) e = clash (cc)
 space-read-one (space-as.Refused r) (space-as.Refused q) e = cc
 
-pub space-read : (code : List ℕ) (a b : SpaceRead) → spaceRead a ≡ spaceCellOf code → spaceRead b ≡ spaceCellOf code → a ≡ b
+pub space-read : (code : List ℕ) → Determined (λ (r : SpaceRead). spaceRead r ≡ spaceCellOf code)
 space-read code a b e f = space-read-one a b (e ∙ sym f)
 
+pub reference-write : (base target line : List ℕ) (at : ℕ)
+    → Determined (λ (r : Written × List ℕ). (written (r .0), r .1) ≡ laid (referenceText base target) line at)
+reference-write base target line at = written-one (referenceText base target) line at
+
+pub reference-read : (code line : List ℕ) (at : ℕ)
+    → Determined (λ (r : Written × List ℕ). (written (r .0), r .1) ≡ laid (targetText code) line at)
+reference-read code line at = written-one (targetText code) line at
+
+pub arcseconds-read : (longitude latitude : Float) → Determined (λ (r : UnitsRead). unitsRead r ≡ unitsOf longitude latitude)
+arcseconds-read longitude latitude a b e f = arc.one-units-read longitude latitude a b e f
+
 -- the f64 results too
-pub plane-box : (code : List ℕ) (a b : BoxRead) → BoxSays (cellOf code) a → BoxSays (cellOf code) b → a ≡ b
+pub plane-box : (code : List ℕ) → Determined (BoxSays (cellOf code))
 plane-box code a b e f = arc.one-box-read (cellOf code) a b e f
 
-one-box-is : {q : HgRefusal} {c : Cell} (a b : HgBox) → BoxIs q c a → BoxIs q c b → a ≡ b
+-- ---- their C forms
+
+-- an equation of the result
+equal : {A : Type 0} {x : A} → Determined (λ (r : A). r ≡ x)
+equal a b e f = e ∙ sym f
+
+-- a writer that lays the text t down
+hg-written-one : (t : Text) (line : List ℕ) (at : ℕ)
+    → Determined (λ (r : HgWritten × List ℕ). (r .0 ≡ writtenOf (laid t line at .0)) × (r .1 ≡ laid t line at .1))
+hg-written-one t line at a b e f = λ j. (equal (a .0) (b .0) (e .0) (f .0) j, equal (a .1) (b .1) (e .1) (f .1) j)
+
+pub hg-plane-write : (level longitude latitude : ℤ) (line : List ℕ) (at : ℕ)
+    → Determined (λ (r : HgWritten × List ℕ). (r .0 ≡ writtenOf (laid (planeText level longitude latitude) line at .0)) × (r .1 ≡ laid (planeText level longitude latitude) line at .1))
+hg-plane-write level longitude latitude line at = hg-written-one (planeText level longitude latitude) line at
+
+pub hg-plane-read : (code : List ℕ) → Determined (λ (r : HgPlaneCell). r ≡ planeCellOf (cellOf code))
+hg-plane-read code = equal
+
+pub hg-space-write : (level longitude latitude layer : ℤ) (line : List ℕ) (at : ℕ)
+    → Determined (λ (r : HgWritten × List ℕ). (r .0 ≡ writtenOf (laid (spaceText level longitude latitude layer) line at .0)) × (r .1 ≡ laid (spaceText level longitude latitude layer) line at .1))
+hg-space-write level longitude latitude layer line at = hg-written-one (spaceText level longitude latitude layer) line at
+
+pub hg-space-read : (code : List ℕ) → Determined (λ (r : HgSpaceCell). r ≡ spaceCellFor (spaceCellOf code))
+hg-space-read code = equal
+
+pub hg-reference-write : (base target line : List ℕ) (at : ℕ)
+    → Determined (λ (r : HgWritten × List ℕ). (r .0 ≡ writtenOf (laid (referenceText base target) line at .0)) × (r .1 ≡ laid (referenceText base target) line at .1))
+hg-reference-write base target line at = hg-written-one (referenceText base target) line at
+
+pub hg-reference-read : (code line : List ℕ) (at : ℕ)
+    → Determined (λ (r : HgWritten × List ℕ). (r .0 ≡ writtenOf (laid (targetText code) line at .0)) × (r .1 ≡ laid (targetText code) line at .1))
+hg-reference-read code line at = hg-written-one (targetText code) line at
+
+pub hg-arcseconds : (longitude latitude : Float) → Determined (λ (r : HgUnits). r ≡ unitsFor (unitsOf longitude latitude))
+hg-arcseconds longitude latitude = equal
+
+one-box-is : {q : HgRefusal} {c : Cell} → Determined (BoxIs q c)
 one-box-is a b e f =
     λ j. record {
       refusal = (e .refusal-is ∙ sym (f .refusal-is)) j;
@@ -68,7 +121,10 @@ one-box-is a b e f =
       height = one-exactly _ _ _ (e .height-is) (f .height-is) j;
     }
 
-pub hg-plane-box : (answer : Answer Cell) (a b : HgBox) → BoxFor answer a → BoxFor answer b → a ≡ b
+pub hg-plane-box : (code : List ℕ) → Determined (BoxFor (cellOf code))
 unfolding BoxFor
-hg-plane-box (accepted c) a b e f = one-box-is a b e f
-hg-plane-box (refused r) a b e f = one-box-is a b e f
+hg-plane-box code = go (cellOf code)
+  where
+    go : (answer : Answer Cell) → Determined (BoxFor answer)
+    go (accepted c) = one-box-is
+    go (refused r) = one-box-is

@@ -17,8 +17,8 @@ use Rattle.grid.specs.Layers.{product, rise, sign, part, layers}
 use Rattle.grid.proofs.Cut.{clash}
 pub use Rattle.grid.proofs.Cut.{part-direct, begins-direct}
 use Rattle.grid.proofs.LayerLaws.{rise-below, all-read}
-use Rattle.layers.specs.Heights.{later, heightDigits}
-use Rattle.layers.specs.Steps.{fairLater, Fair, thicknessAt, digitAt}
+use Rattle.layers.specs.Heights.{laterHeight}
+use Rattle.layers.specs.inner.Steps.{heightDigits, fairLater, Fair, thicknessAt, digitAt}
 use Rattle.layers.proofs.Radices.{later-fair, first-fair, product-some, ten}
 
 -- ---- the digits of the levels after the first
@@ -28,7 +28,7 @@ direct [] X = []
 direct (r ∷ rs) X = (X / product rs % r) ∷ direct rs X
 
 code-later : (top : ℕ) (rs : List ℕ) (l : ℕ) (a : Bool) (z : ℤ) → fairLater rs ≡ true
-    → code (layers top) (take l (map later rs)) (part a (rise top z / product rs * product rs) (product rs)) z ≡ take l (direct rs (rise top z))
+    → code (layers top) (take l (map laterHeight rs)) (part a (rise top z / product rs * product rs) (product rs)) z ≡ take l (direct rs (rise top z))
 unfolding code direct
 code-later top rs zero a z e = refl
 code-later top [] (suc l) a z e = refl

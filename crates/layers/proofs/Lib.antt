@@ -4,3 +4,4 @@ pub mod Digits
 pub mod Writing
 pub mod Reading
 pub mod Inside
+pub mod Determined

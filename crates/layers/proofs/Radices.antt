@@ -13,7 +13,7 @@ use lib.Seq.{drop-cons}
 use borrow.Author.Tests.{ltb-true, leb-true, eqb-true}
 use Rattle.grid.specs.Layers.{radices, product}
 use Rattle.grid.proofs.Cut.{and-true, clash}
-use Rattle.layers.specs.Steps.{fairLater, Fair, thicknessAt}
+use Rattle.layers.specs.inner.Steps.{fairLater, Fair, thicknessAt}
 
 -- document 01's radices are fair
 pub radices-fair : Fair radices

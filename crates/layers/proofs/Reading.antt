@@ -17,8 +17,8 @@ use Rattle.grid.specs.Layers.{product, Stack, part, allChild}
 use Rattle.grid.proofs.Cut.{clash, and-true, cut-end}
 use Rattle.grid.proofs.Laws.{shift-shift}
 use Rattle.layers.specs.declared.Height.{Height}
-use Rattle.layers.specs.Heights.{later, heightLevels, heightRead, heightOf}
-use Rattle.layers.specs.Steps.{Fair, thicknessAt, Readable, BadAt, First, restOf, Upto}
+use Rattle.layers.specs.Heights.{laterHeight, heightLevels, heightRead}
+use Rattle.layers.specs.inner.Steps.{heightOf, Fair, thicknessAt, Readable, BadAt, HeightFirst, heightRest, Upto}
 use Rattle.layers.proofs.Radices.{ten, product-fits, first-radix, later-radix, thick-top, thick-step}
 
 -- a byte's digit is at most 32
@@ -58,21 +58,21 @@ module _ (rs : List ℕ) (s a b : ℕ) (e : Fair rs) where
   abbrev read : Read Stack
   read = allChild (product rs) r (s ∷ a ∷ b ∷ [])
 
-  stops : {p : ℕ} {h : Height} → BadAt p h → read ≡ bad p → First rs s a b h
+  stops : {p : ℕ} {h : Height} → BadAt p h → read ≡ bad p → HeightFirst rs s a b h
   stops x f = record { read = bad-read x ∙ sym f; thick = bad-never x; inside = bad-never x }
 
-  pub first-sign : {h : Height} → 2 ≤ s → BadAt 0 h → First rs s a b h
+  pub first-sign : {h : Height} → 2 ≤ s → BadAt 0 h → HeightFirst rs s a b h
   first-sign l x = stops x (rw (le-ltb s 2 l) refl)
 
   module _ (p : s < 2) where
-    pub first-tens : {h : Height} → r ≤ 10 * a → BadAt 1 h → First rs s a b h
+    pub first-tens : {h : Height} → r ≤ 10 * a → BadAt 1 h → HeightFirst rs s a b h
     first-tens l x = stops x (rw (lt-ltb s 2 p, le-ltb (10 * a) r l) refl)
 
     module _ (q : 10 * a < r) where
-      pub first-ones : {h : Height} → 9 < b → BadAt 2 h → First rs s a b h
+      pub first-ones : {h : Height} → 9 < b → BadAt 2 h → HeightFirst rs s a b h
       first-ones l x = stops x (rw (lt-ltb s 2 p, lt-ltb (10 * a) r q, lt-leb b 9 l) refl)
 
-      pub first-most : {h : Height} → b ≤ 9 → r ≤ 10 * a + b → BadAt 2 h → First rs s a b h
+      pub first-most : {h : Height} → b ≤ 9 → r ≤ 10 * a + b → BadAt 2 h → HeightFirst rs s a b h
       first-most k l x = stops x (rw (lt-ltb s 2 p, lt-ltb (10 * a) r q, le-leb b 9 k, le-ltb (10 * a + b) r l) refl)
 
   first-end : 10 * a + b < r → (10 * a + b) * thicknessAt rs 1 + thicknessAt rs 1 ≤ product rs
@@ -87,7 +87,7 @@ module _ (rs : List ℕ) (s a b : ℕ) (e : Fair rs) where
   first-fits t i l = let z = first-end l in rw i (omega (arith, product-fits rs e))
 
   pub first-read : (t p : ℕ) → t ≡ thicknessAt rs 1 → s < 2 → 10 * a < r → b ≤ 9 → 10 * a + b < r
-      → First rs s a b (record { good = true; place = p; above = eqb s 0; low = (10 * a + b) * t; thick = t })
+      → HeightFirst rs s a b (record { good = true; place = p; above = eqb s 0; low = (10 * a + b) * t; thick = t })
   first-read t p i j k l m =
       record {
         read = rw (i, lt-ltb s 2 j, lt-ltb (10 * a) r k, le-leb b 9 l, lt-ltb (10 * a + b) r m, first-part) refl;
@@ -103,7 +103,7 @@ three (x ∷ y ∷ []) h = absurd (omega arith)
 three (x ∷ y ∷ z ∷ w) h = refl
 
 pub started : (rs : List ℕ) (level : ℕ) (w : List ℕ) {s a b : ℕ} {h : Height} → Fair rs → Readable level (length w)
-    → s ≡ digitOf (getD w 0 0) → a ≡ digitOf (getD w 1 0) → b ≡ digitOf (getD w 2 0) → First rs s a b h → Upto rs level 1 w h
+    → s ≡ digitOf (getD w 0 0) → a ≡ digitOf (getD w 1 0) → b ≡ digitOf (getD w 2 0) → HeightFirst rs s a b h → Upto rs level 1 w h
 unfolding heightRead follow
 started rs zero w e d i j k f = absurd (omega (arith, d .some-level))
 started [] (suc l) w e d i j k f = clash (let t = e .test in cc)
@@ -111,7 +111,7 @@ started (r ∷ rs) (suc l) w {h = h} e d i j k f =
     let m : 3 ≤ length w = omega (arith, d .exactly) in
     let c : allChild (product (r ∷ rs)) r (take 3 (map digitOf w)) ≡ heightOf h = rw (three w m, ← i, ← j, ← k) (sym (f .read)) in
     record {
-      whole = ap (λ x. next 3 x (restOf (r ∷ rs) (suc l) 1 w)) c;
+      whole = ap (λ x. next 3 x (heightRest (r ∷ rs) (suc l) 1 w)) c;
       thick = λ g o. f .thick g;
       inside = f .inside;
     }
@@ -120,12 +120,12 @@ started (r ∷ rs) (suc l) w {h = h} e d i j k f =
 
 levels-ten : (rs : List ℕ) → Fair rs → length (heightLevels rs) ≡ 10
 levels-ten [] e = clash (let t = e .test in cc)
-levels-ten (r ∷ rs) e = omega (arith, length-map rs later, ten (r ∷ rs) e)
+levels-ten (r ∷ rs) e = omega (arith, length-map rs laterHeight, ten (r ∷ rs) e)
 
-level-at : (rs : List ℕ) (k : ℕ) → 1 ≤ k → Fair rs → getD (heightLevels rs) k (later 0) ≡ later (getD rs k 0)
+level-at : (rs : List ℕ) (k : ℕ) → 1 ≤ k → Fair rs → getD (heightLevels rs) k (laterHeight 0) ≡ laterHeight (getD rs k 0)
 level-at rs zero l e = absurd (omega arith)
 level-at [] (suc k) l e = clash (let t = e .test in cc)
-level-at (r ∷ rs) (suc k) l e = List·getD-map later rs k 0
+level-at (r ∷ rs) (suc k) l e = List·getD-map laterHeight rs k 0
 
 module _ (rs : List ℕ) (level k : ℕ) (w : List ℕ) (e : Fair rs) (from : 1 ≤ k) (to : k < 10) (d : Readable level (length w)) where
   -- the level's radix and digit
@@ -137,13 +137,13 @@ module _ (rs : List ℕ) (level k : ℕ) (w : List ℕ) (e : Fair rs) (from : 1 
 
   -- what is left after k levels, where the code has level k + 1: its digit, and what is left after it
   rest-step : k < level → (a : Bool) (low n : ℕ)
-      → restOf rs level k w (part a low n) ≡ next 1 (guard 0 (ltb v q) (ok (part a (low + v * (n / q)) (n / q)))) (restOf rs level (k + 1) w)
+      → heightRest rs level k w (part a low n) ≡ next 1 (guard 0 (ltb v q) (ok (part a (low + v * (n / q)) (n / q)))) (heightRest rs level (k + 1) w)
   unfolding follow
   rest-step h a low n =
       let L = take level (heightLevels rs) in
       let ln : length L ≡ level = length-take level (heightLevels rs) ∙ omega (arith, levels-ten rs e, d .ten-levels) in
-      let g : getD L k (later 0) ≡ later q = getD-take level (heightLevels rs) k (later 0) h ∙ level-at rs k from e in
-      let c : drop k L ≡ later q ∷ drop (suc k) L = drop-cons L k (later 0) (omega arith) ∙ ap (λ t. t ∷ drop (suc k) L) g in
+      let g : getD L k (laterHeight 0) ≡ laterHeight q = getD-take level (heightLevels rs) k (laterHeight 0) h ∙ level-at rs k from e in
+      let c : drop k L ≡ laterHeight q ∷ drop (suc k) L = drop-cons L k (laterHeight 0) (omega arith) ∙ ap (λ t. t ∷ drop (suc k) L) g in
       let ds = map digitOf w in
       let ld : length ds ≡ 2 + level = length-map w digitOf ∙ d .exactly in
       let f : drop (k + 2) ds ≡ getD ds (k + 2) (digitOf 0) ∷ drop (suc (k + 2)) ds = drop-cons ds (k + 2) (digitOf 0) (omega arith) in
@@ -151,7 +151,7 @@ module _ (rs : List ℕ) (level k : ℕ) (w : List ℕ) (e : Fair rs) (from : 1 
       rw (c, f, List·getD-map digitOf w (k + 2) 0, u, add-one k) refl
 
   -- the code ends before level k + 1
-  rest-ended : (j : ℕ) → level ≤ j → (n : Stack) → restOf rs level j w n ≡ ok n
+  rest-ended : (j : ℕ) → level ≤ j → (n : Stack) → heightRest rs level j w n ≡ ok n
   unfolding follow
   rest-ended j m n =
       let L = take level (heightLevels rs) in
@@ -162,7 +162,7 @@ module _ (rs : List ℕ) (level k : ℕ) (w : List ℕ) (e : Fair rs) (from : 1 
   upto-ended {h} l u =
       record { whole = u .whole ∙ same (heightOf h); thick = λ g m. absurd (omega arith); inside = u .inside }
     where
-      same : (x : Read Stack) → next (k + 2) x (restOf rs level k w) ≡ next (k + 1 + 2) x (restOf rs level (k + 1) w)
+      same : (x : Read Stack) → next (k + 2) x (heightRest rs level k w) ≡ next (k + 1 + 2) x (heightRest rs level (k + 1) w)
       same (ok n) = rw (rest-ended k l n, rest-ended (k + 1) (omega arith) n) refl
       same (bad p) = refl
 
@@ -171,18 +171,18 @@ module _ (rs : List ℕ) (level k : ℕ) (w : List ℕ) (e : Fair rs) (from : 1 
   upto-bad {h} b u =
       let x : BadAt (h .place) h = record { none = b; place = refl } in
       record {
-        whole = u .whole ∙ ap (λ y. next (k + 2) y (restOf rs level k w)) (bad-read x)
-            ∙ sym (ap (λ y. next (k + 1 + 2) y (restOf rs level (k + 1) w)) (bad-read x));
+        whole = u .whole ∙ ap (λ y. next (k + 2) y (heightRest rs level k w)) (bad-read x)
+            ∙ sym (ap (λ y. next (k + 1 + 2) y (heightRest rs level (k + 1) w)) (bad-read x));
         thick = λ g m. bad-never x g;
         inside = bad-never x;
       }
 
   -- where all before it are allowed
   module _ {h : Height} (l : k < level) (good : h .good ≡ true) (u : Upto rs level k w h) where
-    before : heightRead rs level (map digitOf w) ≡ shift (k + 2) (next 1 (guard 0 (ltb v q) (ok (part (h .above) (h .low + v * (h .thick / q)) (h .thick / q)))) (restOf rs level (k + 1) w))
+    before : heightRead rs level (map digitOf w) ≡ shift (k + 2) (next 1 (guard 0 (ltb v q) (ok (part (h .above) (h .low + v * (h .thick / q)) (h .thick / q)))) (heightRest rs level (k + 1) w))
     before =
         u .whole
-        ∙ ap (λ y. next (k + 2) y (restOf rs level k w)) (let z : heightOf h ≡ ok (part (h .above) (h .low) (h .thick)) = rw good refl in z)
+        ∙ ap (λ y. next (k + 2) y (heightRest rs level k w)) (let z : heightOf h ≡ ok (part (h .above) (h .low) (h .thick)) = rw good refl in z)
         ∙ ap (shift (k + 2)) (rest-step l (h .above) (h .low) (h .thick))
 
     pub upto-refused : {x : ℕ} {g : Height} → x ≡ v → q ≤ x → BadAt (k + 2) g → Upto rs level (k + 1) w g
@@ -211,7 +211,7 @@ module _ (rs : List ℕ) (level k : ℕ) (w : List ℕ) (e : Fair rs) (from : 1 
         pub upto-read : (p : ℕ) → Upto rs level (k + 1) w (record { good = true; place = p; above = h .above; low = h .low + x * t; thick = t })
         upto-read p =
             let s : k + 2 + 1 ≡ k + 1 + 2 = omega arith in
-            let o = restOf rs level (k + 1) w (part (h .above) (h .low + x * t) t) in
+            let o = heightRest rs level (k + 1) w (part (h .above) (h .low + x * t) t) in
             record {
               whole = before ∙ rw (lt-ltb v q (subst (λ (y : ℕ). y < q) i m), child, ← i) (shift-shift (k + 2) 1 o ∙ ap (λ (y : ℕ). shift y o) s);
               thick = λ g j. is;
@@ -222,6 +222,6 @@ module _ (rs : List ℕ) (level k : ℕ) (w : List ℕ) (e : Fair rs) (from : 1 
 pub upto-all : (rs : List ℕ) (level : ℕ) (w : List ℕ) {h : Height} → Fair rs → Readable level (length w) → Upto rs level 10 w h → heightOf h ≡ heightRead rs level (map digitOf w)
 upto-all rs level w {h} e d u = sym (u .whole ∙ go (heightOf h))
   where
-    go : (x : Read Stack) → next 12 x (restOf rs level 10 w) ≡ x
+    go : (x : Read Stack) → next 12 x (heightRest rs level 10 w) ≡ x
     go (ok n) = rw (rest-ended rs level 1 w e (omega arith) (omega arith) d 10 (d .ten-levels) n) refl
     go (bad p) = refl

@@ -14,13 +14,13 @@ use mir.Facts.{toZ-ofZ, toZ-pos}
 use native.Mathlib.Nat.{not-suc-le-zero}
 use borrow.Author.Tests.{ltb-true, lt-ltb, le-ltb}
 use Rattle.grid.specs.Units.{side, index}
+use Rattle.grid.specs.Answers.{Answer, accepted, refused}
 use Rattle.grid.specs.Layers.{product, rise, part, floorOf}
 use Rattle.grid.proofs.Cut.{clash}
 use Rattle.grid.proofs.Signed.{mirrored-fits, mirrored-back}
 pub use Rattle.grid.proofs.LayerLaws.{rise-below}
-use Rattle.layers.specs.declared.AskedLayer.the-variants.{At, Outside}
-use Rattle.layers.specs.Heights.{layerOf, askedOf}
-use Rattle.layers.specs.Steps.{Fair, thicknessAt}
+use Rattle.layers.specs.Heights.{outsideLayers, askedOf}
+use Rattle.layers.specs.inner.Steps.{layerOf, Fair, thicknessAt}
 use Rattle.layers.proofs.Radices.{product-fits, thick-top}
 
 -- ---- the layer on a side with a rise
@@ -46,26 +46,27 @@ module _ (top : ℕ) where
 -- ---- a layer that is asked for
 
 -- outside, and on either side
-asked-out : (rs : List ℕ) (z : ℤ) → product rs ≤ index z → Outside ≡ askedOf rs z
+asked-out : (rs : List ℕ) (z : ℤ) → product rs ≤ index z → refused outsideLayers ≡ askedOf rs z
 asked-out rs z h = rw (le-ltb (index z) (product rs) h) refl
 
-asked-down : (rs : List ℕ) (z : ℤ) → index z < product rs → ltZ z (pos 0) ≡ true → At false (product rs - 1 - index z) ≡ askedOf rs z
+asked-down : (rs : List ℕ) (z : ℤ) → index z < product rs → ltZ z (pos 0) ≡ true → accepted (false, product rs - 1 - index z) ≡ askedOf rs z
 asked-down rs (pos n) h s = absurd (not-suc-le-zero (ltb-true n 0 s))
 asked-down rs (negsuc n) h s = rw (lt-ltb n (product rs) h) refl
 
-asked-up : (rs : List ℕ) (z : ℤ) → index z < product rs → ltZ z (pos 0) ≡ false → At true (index z) ≡ askedOf rs z
+asked-up : (rs : List ℕ) (z : ℤ) → index z < product rs → ltZ z (pos 0) ≡ false → accepted (true, index z) ≡ askedOf rs z
 asked-up rs (pos n) h s = rw (lt-ltb n (product rs) h) refl
 asked-up rs (negsuc n) h s = clash (cc)
 
 -- what is asked for is in its range
-pub asked-at : (rs : List ℕ) (z : ℤ) {a : Bool} {n : ℕ} → askedOf rs z ≡ At a n → (index z < product rs) × (n < product rs) × (layerOf (product rs) a n ≡ z)
+pub asked-at : (rs : List ℕ) (z : ℤ) {a : Bool} {n : ℕ} → askedOf rs z ≡ accepted (a, n) → (index z < product rs) × (n < product rs) × (layerOf (product rs) a n ≡ z)
 asked-at rs z {a} {n} e = go (ltb (index z) (product rs)) refl e
   where
-    go : (q : Bool) → ltb (index z) (product rs) ≡ q → cond q (At (side z) (rise (product rs) z)) Outside ≡ At a n → (index z < product rs) × (n < product rs) × (layerOf (product rs) a n ≡ z)
+    go : (q : Bool) → ltb (index z) (product rs) ≡ q → cond {A = Answer (Bool × ℕ)} q (accepted (side z, rise (product rs) z)) (refused outsideLayers) ≡ accepted (a, n) → (index z < product rs) × (n < product rs) × (layerOf (product rs) a n ≡ z)
     go true h f =
         let i : index z < product rs = ltb-true _ _ h in
-        let b : side z ≡ a = cc in
-        let c : rise (product rs) z ≡ n = cc in
+        let w : _≡_ {A = Bool × ℕ} (side z, rise (product rs) z) (a, n) = cc in
+        let b : side z ≡ a = ap (λ (x : Bool × ℕ). x .0) w in
+        let c : rise (product rs) z ≡ n = ap (λ (x : Bool × ℕ). x .1) w in
         let s : layerOf (product rs) (side z) (rise (product rs) z) ≡ layerOf (product rs) a n =
         ap (λ (x : Bool). layerOf (product rs) x (rise (product rs) z)) b ∙ ap (λ (k : ℕ). layerOf (product rs) a k) c in
         (i, subst (λ (k : ℕ). k < product rs) c (rise-below (product rs) z i), sym s ∙ layer-back (product rs) z i)
@@ -79,13 +80,13 @@ module _ (rs : List ℕ) {w : Width} {z : ℤ} (f : SFits w z) {t n : ℕ} (is :
   top : t ≡ product rs
   top = is ∙ thick-top rs
 
-  pub asked-outside : t ≤ n → Outside ≡ askedOf rs z
+  pub asked-outside : t ≤ n → refused outsideLayers ≡ askedOf rs z
   asked-outside h = asked-out rs z (omega (arith, top, outward))
 
-  pub asked-below : n < t → ltZ (toZ w (ofZ w z)) (pos 0) ≡ true → At false (t - 1 - n) ≡ askedOf rs z
-  asked-below h s = rw (top, outward) (asked-down rs z (omega (arith, top, outward)) (rw (toZ-ofZ f) at s))
+  pub asked-below : {x : ℕ} → x ≡ t - 1 - n → n < t → ltZ (toZ w (ofZ w z)) (pos 0) ≡ true → accepted (false, x) ≡ askedOf rs z
+  asked-below i h s = rw (i, top, outward) (asked-down rs z (omega (arith, top, outward)) (rw (toZ-ofZ f) at s))
 
-  pub asked-above : n < t → ltZ (toZ w (ofZ w z)) (pos 0) ≡ false → At true n ≡ askedOf rs z
+  pub asked-above : n < t → ltZ (toZ w (ofZ w z)) (pos 0) ≡ false → accepted (true, n) ≡ askedOf rs z
   asked-above h s = rw outward (asked-up rs z (omega (arith, top, outward)) (rw (toZ-ofZ f) at s))
 
 -- ---- the lower face
@@ -101,11 +102,13 @@ module _ (rs : List ℕ) (e : Fair rs) (low : ℕ) (h : low < product rs) where
     pub low-below : low < t
     low-below = rw (is, thick-top rs) h
 
-    pub depth-fits : t - 1 - low < 2147483648
-    depth-fits = rw (is, thick-top rs) (omega (arith, product-fits rs e))
+    -- the outward index
+    module _ (d : ℕ) (depth : d ≡ t - 1 - low) where
+      pub depth-fits : d < 2147483648
+      depth-fits = rw (depth, is, thick-top rs) (omega (arith, product-fits rs e))
 
-    pub down-fits : SFits w32 (negsuc 0 -ℤ toZ w32 (t - 1 - low))
-    down-fits = mirrored-fits w32 depth-fits
+      pub down-fits : SFits w32 (negsuc 0 -ℤ toZ w32 d)
+      down-fits = mirrored-fits w32 depth-fits
 
-    pub floor-down : (a : Bool) → a ≡ false → (n : ℕ) → toZ w32 (ofZ w32 (negsuc 0 -ℤ toZ w32 (t - 1 - low))) ≡ floorOf (product rs) (part a low n)
-    floor-down a s n = rw s (mirrored-back w32 depth-fits ∙ ap (λ (x : ℕ). negsuc (x - 1 - low)) (is ∙ thick-top rs))
+      pub floor-down : (a : Bool) → a ≡ false → (n : ℕ) → toZ w32 (ofZ w32 (negsuc 0 -ℤ toZ w32 d)) ≡ floorOf (product rs) (part a low n)
+      floor-down a s n = rw s (mirrored-back w32 depth-fits ∙ ap negsuc (depth ∙ ap (λ (x : ℕ). x - 1 - low) (is ∙ thick-top rs)))

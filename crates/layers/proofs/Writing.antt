@@ -16,8 +16,7 @@ use Rattle.grid.specs.Characters.{charOf}
 use Rattle.grid.specs.Layers.{product, sign}
 use Rattle.grid.proofs.Cut.{clash}
 use Rattle.grid.proofs.Lists.{sets-next}
-use Rattle.layers.specs.Heights.{heightDigits, layerOf}
-use Rattle.layers.specs.Steps.{Fair, thicknessAt, digitAt, charsAt, Writable}
+use Rattle.layers.specs.inner.Steps.{heightDigits, layerOf, Fair, thicknessAt, digitAt, heightCharsAt, HeightWritable}
 use Rattle.layers.proofs.Radices.{first-radix, later-radix, thick-some, thick-step, thick-top}
 use Rattle.layers.proofs.Sides.{layer-side, layer-rise, layer-in}
 use Rattle.layers.proofs.Digits.{height-straight, height-length, height-more}
@@ -50,13 +49,13 @@ digit-below rs k n e a b =
     let m : n % getD rs k 0 < getD rs k 0 = mod-lt n (f .more) in
     omega (arith, f .few)
 
-pub none-stored : (rs : List ℕ) (level k n : ℕ) (l : List ℕ) → level ≤ k → l ≡ sets l (k + 2) (charsAt rs level k n)
-unfolding charsAt
+pub none-stored : (rs : List ℕ) (level k n : ℕ) (l : List ℕ) → level ≤ k → l ≡ sets l (k + 2) (heightCharsAt rs level k n)
+unfolding heightCharsAt
 none-stored rs level k n l h = rw (le-ltb k level h) refl
 
 pub one-stored : (rs : List ℕ) (level k n t : ℕ) (l : List ℕ) {x : ℕ} → k < level → t ≡ thicknessAt rs (k + 1)
-    → x ≡ charOf (n / t % getD rs k 0) → set l (k + 2) x ≡ sets l (k + 2) (charsAt rs level k n)
-unfolding charsAt digitAt
+    → x ≡ charOf (n / t % getD rs k 0) → set l (k + 2) x ≡ sets l (k + 2) (heightCharsAt rs level k n)
+unfolding heightCharsAt digitAt
 one-stored rs level k n t l h s p = rw (p, s, lt-ltb k level h) refl
 
 -- ---- a line in which the height characters are laid down, level by level
@@ -76,17 +75,17 @@ module _ (rs : List ℕ) (a : Bool) (n : ℕ) (e : Fair rs) (h : n < product rs)
 -- the line l is l₀ with the height characters of a code of a level laid down as far as level k
 pub record LaidTo (k level : ℕ) (rs : List ℕ) (a : Bool) (n : ℕ) (l₀ l : List ℕ) : Type 0 where
   pub radices-fair : Fair rs
-  pub writable : Writable rs level n l
+  pub writable : HeightWritable rs level n l
   pub laid : l ≡ sets l₀ 0 (map charOf (heightDigits rs (min level k) (layerOf (product rs) a n)))
 
 -- stores keep the room
-still : (rs : List ℕ) (level n : ℕ) (l m : List ℕ) (i : ℕ) (w : List ℕ) → Writable rs level n l → m ≡ sets l i w → Writable rs level n m
+still : (rs : List ℕ) (level n : ℕ) (l m : List ℕ) (i : ℕ) (w : List ℕ) → HeightWritable rs level n l → m ≡ sets l i w → HeightWritable rs level n m
 still rs level n l m i w h e =
     let s : length m ≡ length l = ap length e ∙ length-sets l i w in
     record { some-level = h .some-level; ten-levels = h .ten-levels; rise-in = h .rise-in; room = omega (arith, h .room) }
 
 module _ {level n : ℕ} {rs : List ℕ} {a : Bool} {l₀ : List ℕ} where
-  pub laid-first : {l : List ℕ} → Fair rs → Writable rs level n l₀ → l ≡ sets l₀ 0 (map charOf (heightDigits rs 1 (layerOf (product rs) a n))) → LaidTo 1 level rs a n l₀ l
+  pub laid-first : {l : List ℕ} → Fair rs → HeightWritable rs level n l₀ → l ≡ sets l₀ 0 (map charOf (heightDigits rs 1 (layerOf (product rs) a n))) → LaidTo 1 level rs a n l₀ l
   laid-first e h f =
       let u : 1 ≡ min level 1 = omega (arith, h .some-level) in
       record {
@@ -95,14 +94,14 @@ module _ {level n : ℕ} {rs : List ℕ} {a : Bool} {l₀ : List ℕ} where
         laid = f ∙ ap (λ (i : ℕ). sets l₀ 0 (map charOf (heightDigits rs i (layerOf (product rs) a n)))) u;
       }
 
-  pub laid-more : (k : ℕ) {l m : List ℕ} → 1 ≤ k → k < 10 → LaidTo k level rs a n l₀ l → m ≡ sets l (k + 2) (charsAt rs level k n) → LaidTo (k + 1) level rs a n l₀ m
-  unfolding charsAt
+  pub laid-more : (k : ℕ) {l m : List ℕ} → 1 ≤ k → k < 10 → LaidTo k level rs a n l₀ l → m ≡ sets l (k + 2) (heightCharsAt rs level k n) → LaidTo (k + 1) level rs a n l₀ m
+  unfolding heightCharsAt
   laid-more k {l} {m} b c h f =
       record {
         radices-fair = h .radices-fair;
-        writable = still rs level n l m (k + 2) (charsAt rs level k n) (h .writable) f;
+        writable = still rs level n l m (k + 2) (heightCharsAt rs level k n) (h .writable) f;
         laid = f
-            ∙ ap (λ x. sets x (k + 2) (charsAt rs level k n)) (h .laid)
+            ∙ ap (λ x. sets x (k + 2) (heightCharsAt rs level k n)) (h .laid)
             ∙ added rs a n (h .radices-fair) (h .writable .rise-in) level l₀ k b c;
       }
 

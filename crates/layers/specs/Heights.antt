@@ -1,4 +1,5 @@
--- The height characters of a space code and what they lead to, over any list of radices (document 01, "Layers and the space code").
+-- A layer that is asked for, and the layers that height characters lead to, over any list of radices (document 01, "Layers and the space code").
+-- The answers of `layers` in document 01's numbers.
 -- Assumes nothing.
 use mathlib.Core.Bool.{Bool, cond}
 use mathlib.Core.List.{List, [], _∷_, map}
@@ -6,45 +7,56 @@ use Prim.Native.Nat.{ℕ}
 use lib.Dec.{ltb}
 use lib.IntN.{ℤ}
 use lib.ListN.{take}
+use Rattle.grid.specs.declared.Refusal.{Refusal}
 use Rattle.grid.specs.Units.{side, index}
-use Rattle.grid.specs.Tree.{Read, ok, bad, code, follow}
-use Rattle.grid.specs.Layers.{product, rise, Stack, all, part, Radix, layers, floorOf}
+use Rattle.grid.specs.Tree.{Read, ok, bad, follow}
+use Rattle.grid.specs.Answers.{Answer, accepted, refused, refusal, wrongCharacter}
+use Rattle.grid.specs.Layers.{product, rise, Stack, all, part, Radix, layers}
 use Rattle.layers.specs.declared.AskedLayer.{AskedLayer}
 use Rattle.layers.specs.declared.AskedLayer.the-variants.{At, Outside}
-use Rattle.layers.specs.declared.Height.{Height}
 use Rattle.layers.specs.declared.LayersRead.{LayersRead}
 use Rattle.layers.specs.declared.LayersRead.the-variants.{Found, Bad}
 
+-- ---- a layer that is asked for
+
+-- 4: layer outside its range
+abbrev pub outsideLayers : Refusal
+outsideLayers = refusal 4 0
+
+-- a layer's side of the ground and its rise, or 4
+abbrev pub askedOf : List ℕ → ℤ → Answer (Bool × ℕ)
+askedOf rs z = cond (ltb (index z) (product rs)) (accepted (side z, rise (product rs) z)) (refused outsideLayers)
+
+-- the answer in the paper's numbers: the side and the rise, or 4
+abbrev pub layerAsked : AskedLayer → Answer (Bool × ℕ)
+layerAsked (At above n) = accepted (above, n)
+layerAsked Outside = refused outsideLayers
+
+-- ---- height characters that are read
+
 -- a level after the first has one character
-abbrev pub later : ℕ → Radix
-later r = record { characters = 1; radix = r }
+abbrev pub laterHeight : ℕ → Radix
+laterHeight r = record { characters = 1; radix = r }
 
 -- the levels of the height: the first has the sign and two decimal digits
 abbrev pub heightLevels : List ℕ → List Radix
 heightLevels [] = []
-heightLevels (r ∷ rs) = record { characters = 3; radix = r } ∷ map later rs
-
--- the height digits of a code of level l for a layer
-unfoldable pub heightDigits : List ℕ → ℕ → ℤ → List ℕ
-heightDigits rs l z = code (layers (product rs)) (take l (heightLevels rs)) all z
+heightLevels (r ∷ rs) = record { characters = 3; radix = r } ∷ map laterHeight rs
 
 -- the layers that the height digits of a code of level l lead to, or the place of the first that is not allowed
 unfoldable pub heightRead : List ℕ → ℕ → List ℕ → Read Stack
 heightRead rs l ds = follow (layers (product rs)) (take l (heightLevels rs)) all ds
 
--- the layer on a side of the ground with a rise
-abbrev pub layerOf : ℕ → Bool → ℕ → ℤ
-layerOf top above n = floorOf top (part above n 1)
+-- what was read, as an answer: the layers, or 7 with the place
+abbrev pub stackAnswer : Read Stack → Answer Stack
+stackAnswer (ok n) = accepted n
+stackAnswer (bad p) = refused (wrongCharacter p)
 
--- a layer's side and rise; outside its range it gets refusal 4
-abbrev pub askedOf : List ℕ → ℤ → AskedLayer
-askedOf rs z = cond (ltb (index z) (product rs)) (At (side z) (rise (product rs) z)) Outside
+-- the layers that the height digits of a code of level l lead to, or 7 with the place among them
+abbrev pub heightAnswer : List ℕ → ℕ → List ℕ → Answer Stack
+heightAnswer rs l ds = stackAnswer (heightRead rs l ds)
 
--- a height reader's answer: so many layers from a lowest one on, or the place of the first bad character
-abbrev pub layersRead : LayersRead → Read Stack
-layersRead (Found above low thick) = ok (part above low thick)
-layersRead (Bad p) = bad p
-
--- what was read so far, by the reader's cursor
-abbrev pub heightOf : Height → Read Stack
-heightOf h = cond (h .good) (ok (part (h .above) (h .low) (h .thick))) (bad (h .place))
+-- the answer in the paper's numbers: so many layers from a lowest one on, or 7 with the place
+abbrev pub layersAnswer : LayersRead → Answer Stack
+layersAnswer (Found above low thick) = accepted (part above low thick)
+layersAnswer (Bad p) = refused (wrongCharacter p)

@@ -1,2 +1,2 @@
 pub mod Heights
-pub mod Steps
+pub mod inner

@@ -4,12 +4,13 @@
 ghost use mathlib.Core.Path.{_≡_};
 ghost use mathlib.Core.List.{map};
 ghost use Prim.Native.Nat.{ℕ, _+_, _≤_, _<_};
+ghost use lib.IntN.{negsuc};
 ghost use lib.ListN.{length};
 ghost use lib.Seq.{sets};
 ghost use Rattle.grid.specs.Characters.{charOf, digitOf};
-ghost use Rattle.grid.specs.Layers.{radices, product, sign, part, floorOf};
-ghost use Rattle.layers.specs.Heights.{heightDigits, heightRead, layerOf, askedOf, heightOf, layersRead};
-ghost use Rattle.layers.specs.Steps.{Fair, thicknessAt, charsAt, Writable, Readable, BadAt, First, Upto};
+ghost use Rattle.grid.specs.Layers.{radices, product, rise, sign, part, floorOf};
+ghost use Rattle.layers.specs.Heights.{askedOf, layerAsked, stackAnswer, heightAnswer, layersAnswer};
+ghost use Rattle.layers.specs.inner.Steps.{Fair, thicknessAt, layerOf, heightDigits, heightCharsAt, HeightWritable, heightOf, Readable, BadAt, HeightFirst, Upto};
 
 // Document 01's radices, from the coarsest.
 const RADICES: [u32; 10] = [64, 8, 2, 15, 15, 2, 8, 8, 8, 8];
@@ -20,7 +21,7 @@ pub enum AskedLayer {
     Outside,
 }
 
-// What height characters lead to: layers above ground or below, the lowest one's rise, and how many they are; or the place of the first character that is not allowed.
+// What height characters lead to: layers above ground or below, the lowest one's rise, and how many they are; or the place of the first character that is not allowed, which is refusal 7.
 pub enum LayersRead {
     Found(bool, u32, u32),
     Bad(usize),
@@ -52,10 +53,18 @@ fn thickness(rs: [u32; 10], k: usize) -> u32
 
 // ---- a layer's side and rise
 
+// Below ground, the rise of the layer with an outward index: up from the lowest layer, where the index goes down from the ground. The index of a rise likewise.
+fn below_ground(top: u32, n: u32) -> u32
+    requires { ⌜ n < top ⌝ }
+    ensures { λ r. ⌜ r ≡ rise top (negsuc n) ⌝ }
+{
+    top - 1 - n
+}
+
 // Over any radices: as many layers above ground as they number, and as many below.
 fn ask_over(rs: [u32; 10], layer: i64) -> AskedLayer
     requires { ⌜ Fair rs ⌝ }
-    ensures { λ r. ⌜ r ≡ askedOf rs layer ⌝ }
+    ensures { λ r. ⌜ layerAsked r ≡ askedOf rs layer ⌝ }
 {
     let top = thickness(rs, 0);
     let n = grid::outward(layer);
@@ -63,7 +72,7 @@ fn ask_over(rs: [u32; 10], layer: i64) -> AskedLayer
         return AskedLayer::Outside;
     }
     if layer < 0 {
-        AskedLayer::At(false, top - 1 - n as u32)
+        AskedLayer::At(false, below_ground(top, n as u32))
     } else {
         AskedLayer::At(true, n as u32)
     }
@@ -71,7 +80,7 @@ fn ask_over(rs: [u32; 10], layer: i64) -> AskedLayer
 
 // A layer's side and rise, or refusal 4.
 pub fn ask_layer(layer: i64) -> AskedLayer
-    ensures { λ r. ⌜ r ≡ askedOf radices layer ⌝ }
+    ensures { λ r. ⌜ layerAsked r ≡ askedOf radices layer ⌝ }
 {
     ask_over(RADICES, layer)
 }
@@ -98,8 +107,8 @@ fn put_first(rs: [u32; 10], above: bool, rise: u32, line: &mut [u8])
 
 // Level k + 1, a later one: nothing where the code ends before it.
 fn put_digit(rs: [u32; 10], level: u32, k: usize, rise: u32, line: &mut [u8])
-    requires { ⌜ Fair rs × (1 ≤ k) × (k < 10) × Writable rs level rise (now line) ⌝ }
-    ensures { λ _. ⌜ now (line .exit) ≡ sets (now (line .entry)) (k + 2) (charsAt rs level k rise) ⌝ }
+    requires { ⌜ Fair rs × (1 ≤ k) × (k < 10) × HeightWritable rs level rise (now line) ⌝ }
+    ensures { λ _. ⌜ now (line .exit) ≡ sets (now (line .entry)) (k + 2) (heightCharsAt rs level k rise) ⌝ }
 {
     if level as usize <= k {
         return;
@@ -110,7 +119,7 @@ fn put_digit(rs: [u32; 10], level: u32, k: usize, rise: u32, line: &mut [u8])
 
 // All the levels, over any radices.
 fn put_over(rs: [u32; 10], level: u32, above: bool, rise: u32, line: &mut [u8])
-    requires { ⌜ Fair rs × Writable rs level rise (now line) ⌝ }
+    requires { ⌜ Fair rs × HeightWritable rs level rise (now line) ⌝ }
     ensures { λ _. ⌜ now (line .exit) ≡ sets (now (line .entry)) 0 (map charOf (heightDigits rs level (layerOf (product rs) above rise))) ⌝ }
 {
     put_first(rs, above, rise, line);
@@ -127,7 +136,7 @@ fn put_over(rs: [u32; 10], level: u32, above: bool, rise: u32, line: &mut [u8])
 
 // The height characters of a code of a level, from the line's beginning on; the bytes after them stay.
 pub fn put(level: u32, above: bool, rise: u32, line: &mut [u8])
-    requires { ⌜ Writable radices level rise (now line) ⌝ }
+    requires { ⌜ HeightWritable radices level rise (now line) ⌝ }
     ensures { λ _. ⌜ now (line .exit) ≡ sets (now (line .entry)) 0 (map charOf (heightDigits radices level (layerOf (product radices) above rise))) ⌝ }
 {
     put_over(RADICES, level, above, rise, line);
@@ -152,7 +161,7 @@ impl Height {
     // After the sign and the two decimal digits of level 1.
     fn first(rs: [u32; 10], s: u32, a: u32, b: u32) -> Height
         requires { ⌜ Fair rs × (a ≤ 32) × (b ≤ 32) ⌝ }
-        ensures { λ r. ⌜ First rs s a b r ⌝ }
+        ensures { λ r. ⌜ HeightFirst rs s a b r ⌝ }
     {
         if 2 <= s {
             return refused(0);
@@ -214,7 +223,7 @@ impl Height {
 
     // What the reader answers.
     fn answer(self) -> LayersRead
-        ensures { λ r. ⌜ layersRead r ≡ heightOf self ⌝ }
+        ensures { λ r. ⌜ layersAnswer r ≡ stackAnswer (heightOf self) ⌝ }
     {
         if self.good {
             LayersRead::Found(self.above, self.low, self.thick)
@@ -227,7 +236,7 @@ impl Height {
 // All the levels, over any radices.
 fn read_over(rs: [u32; 10], level: u32, digits: &[u8]) -> LayersRead
     requires { ⌜ Fair rs × Readable level (length (now digits)) ⌝ }
-    ensures { λ r. ⌜ layersRead r ≡ heightRead rs level (map digitOf (now (digits .entry))) ⌝ }
+    ensures { λ r. ⌜ layersAnswer r ≡ heightAnswer rs level (map digitOf (now (digits .entry))) ⌝ }
 {
     Height::start(rs, level, digits)
         .next(rs, level, 1, digits)
@@ -242,10 +251,10 @@ fn read_over(rs: [u32; 10], level: u32, digits: &[u8]) -> LayersRead
         .answer()
 }
 
-// The layers that the height characters of a code of a level lead to, or the place of the first that is not allowed, among these alone.
+// The layers that the height characters of a code of a level lead to, or refusal 7 with the place of the first that is not allowed, among these alone.
 pub fn read(level: u32, digits: &[u8]) -> LayersRead
     requires { ⌜ Readable level (length (now digits)) ⌝ }
-    ensures { λ r. ⌜ layersRead r ≡ heightRead radices level (map digitOf (now (digits .entry))) ⌝ }
+    ensures { λ r. ⌜ layersAnswer r ≡ heightAnswer radices level (map digitOf (now (digits .entry))) ⌝ }
 {
     read_over(RADICES, level, digits)
 }
@@ -260,7 +269,7 @@ fn floor_over(rs: [u32; 10], above: bool, low: u32) -> i32
     if above {
         low as i32
     } else {
-        -1 - (thickness(rs, 0) - 1 - low) as i32
+        -1 - below_ground(thickness(rs, 0), low) as i32
     }
 }
 

@@ -22,8 +22,8 @@ use Rattle.grid.proofs.LayerLaws.{layer-laws}
 use Rattle.grid.proofs.BothLaws.{ones, twos, InBoth, GoodBoth}
 use Rattle.grid.proofs.Theorems.{radices-sound, space-sound}
 use Rattle.layers.specs.Heights.{heightLevels}
-use Rattle.space.specs.Weave.{Strand, both-of, parts, placeIn, firsts, seconds, placeOne, placeTwo}
-use Rattle.space.specs.Space.{tenStrands, countFrom, planePart, heightPart, planePlace, heightPlace}
+use Rattle.space.specs.inner.Weave.{Strand, both-of, parts, strandPlace, firsts, seconds, placeOne, placeTwo}
+use Rattle.space.specs.inner.Parts.{tenStrands, countFrom, planePart, heightPart, planePlace, heightPlace}
 use Rattle.space.proofs.Weaving.{strands, each-some, counted, Sliced, sliced-one, sliced-two, parts-length, part-digit, place-fewer}
 use Rattle.space.proofs.Tables.{length-few, given-at, given-length}
 
@@ -102,9 +102,9 @@ module _ (l : ℕ) (C : Counted l) (w : List ℕ) (long : length w ≡ getD spac
   whole = long ∙ sym (C .all-of)
 
   same-part : {part : Strand → List ℕ → List ℕ} {count : Strand → ℕ} {place : Strand → ℕ → ℕ} (S : Sliced part count place) (n m : ℕ) → counted count (take l tenStrands) ≡ n → n ≤ m
-      → take n (map (λ p. getD w (placeIn count place tenStrands p) 0) (countFrom 0 m)) ≡ parts part (take l tenStrands) w
+      → take n (map (λ p. getD w (strandPlace count place tenStrands p) 0) (countFrom 0 m)) ≡ parts part (take l tenStrands) w
   same-part {part} {count} {place} S n m e h =
-      let f : ℕ → ℕ = λ p. getD w (placeIn count place tenStrands p) 0 in
+      let f : ℕ → ℕ = λ p. getD w (strandPlace count place tenStrands p) 0 in
       let a : length (take n (map f (countFrom 0 m))) ≡ n = length-take-le n (map f (countFrom 0 m)) (let z : length (map f (countFrom 0 m)) ≡ m = given-length f m in omega arith) in
       let b : length (parts part (take l tenStrands) w) ≡ n = parts-length S (take l tenStrands) w (C .some) whole ∙ e in
       ext-getD 0 (take n (map f (countFrom 0 m))) (parts part (take l tenStrands) w) (a ∙ sym b)

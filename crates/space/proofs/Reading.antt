@@ -27,12 +27,12 @@ use Rattle.grid.proofs.Families.{level-length, length-level}
 use Rattle.grid.proofs.Theorems.{plane-sound, radices-sound}
 use Rattle.layers.specs.declared.LayersRead.{LayersRead}
 use Rattle.layers.specs.declared.LayersRead.the-variants as layers-as
-use Rattle.layers.specs.Heights.{heightLevels, heightRead, layersRead}
+use Rattle.layers.specs.Heights.{heightLevels, heightRead, stackAnswer, heightAnswer, layersAnswer}
 use Rattle.layers.proofs.Radices.{radices-fair}
 use Rattle.layers.proofs.Inside.{read-inside}
 use Rattle.plane.specs.inner.Lengths.{orZero}
-use Rattle.space.specs.Weave.{Strand, firsts, seconds, placeTwo, together}
-use Rattle.space.specs.Space.{spaceLevelOf, tenStrands, planePart, heightPart, planePlace, joinedAnswer, Lying}
+use Rattle.space.specs.inner.Weave.{Strand, firsts, seconds, placeTwo, together}
+use Rattle.space.specs.inner.Parts.{spaceLevelOf, tenStrands, planePart, heightPart, planePlace, joinedAnswer, Lying}
 use Rattle.space.proofs.Weaving.{sliced-one, sliced-two, parts-map, follow-woven}
 use Rattle.space.proofs.Parts.{
   top,
@@ -115,7 +115,7 @@ module _ (l : ℕ) (low : 1 ≤ l) (high : l ≤ 10) where
 
   -- the two readings, as answers and together
   as-joined : (ra : Read Node) (rb : Read Stack) → ((p : ℕ) → ra ≡ bad p → p < splitAt (l - 1) .length) → ((q : ℕ) → rb ≡ bad q → q < 2 + l)
-      → unfold planeCodes spaceCodes in (answer (spaceCodes radices) l (together (take l tenStrands) ra rb) ≡ joinedAnswer (answer planeCodes l ra) rb)
+      → unfold planeCodes spaceCodes in (answer (spaceCodes radices) l (together (take l tenStrands) ra rb) ≡ joinedAnswer (answer planeCodes l ra) (stackAnswer rb))
   unfolding planeCodes spaceCodes
   as-joined (ok n) (ok m) ha hb = refl
   as-joined (ok n) (bad q) ha hb = ap (λ (x : ℕ). refused (wrongCharacter x)) (height-place l C q (hb q refl))
@@ -142,7 +142,7 @@ module _ (l : ℕ) (low : 1 ≤ l) (high : l ≤ 10) where
         ∙ rw (plane-levels l, height-levels l, level-strands l, parts-map sliced-one digitOf S w, parts-map sliced-two digitOf S w) refl
 
     pub read-parts : placeIn (length w) 1 spaceLengths ≡ some l
-        → joinedAnswer (cellOf (take (splitAt (l - 1) .length) (planePart w))) (heightRead radices l (map digitOf (take (2 + l) (heightPart w)))) ≡ spaceCellOf w
+        → joinedAnswer (cellOf (take (splitAt (l - 1) .length) (planePart w))) (heightAnswer radices l (map digitOf (take (2 + l) (heightPart w)))) ≡ spaceCellOf w
     unfolding spaceCellOf readIn spaceCodes planeCodes
     read-parts q =
         let a = plane-same l C w long in
@@ -155,13 +155,13 @@ module _ (l : ℕ) (low : 1 ≤ l) (high : l ≤ 10) where
         (λ p e. height-inside (map digitOf fb) p (length-map fb digitOf ∙ height-long l C w long) e)))
 
 -- the reader's answer, from its two parts' answers
-pub read-joined : (w : List ℕ) (l : ℕ) → Leveled (length w) l → {r : Answer SpaceCell} {a : Answer Cell} {b : Read Stack} → r ≡ joinedAnswer a b
-    → a ≡ cellOf (take (splitAt (l - 1) .length) (planePart w)) → b ≡ heightRead radices l (map digitOf (take (2 + l) (heightPart w))) → r ≡ spaceCellOf w
+pub read-joined : (w : List ℕ) (l : ℕ) → Leveled (length w) l → {r : Answer SpaceCell} {a : Answer Cell} {b : Answer Stack} → r ≡ joinedAnswer a b
+    → a ≡ cellOf (take (splitAt (l - 1) .length) (planePart w)) → b ≡ heightAnswer radices l (map digitOf (take (2 + l) (heightPart w))) → r ≡ spaceCellOf w
 read-joined w l t {a = a} {b = b} e f g =
     e ∙ ap (λ x. joinedAnswer x b) f ∙ ap (λ x. joinedAnswer (cellOf (take (splitAt (l - 1) .length) (planePart w))) x) g
     ∙ read-parts l (t .low) (t .high) w (t .long) (t .place)
 
 -- layers that were read lie in their range
-pub lying : (l : ℕ) (ds : List ℕ) (h : LayersRead) → layersRead h ≡ heightRead radices l ds → Lying h
+pub lying : (l : ℕ) (ds : List ℕ) (h : LayersRead) → layersAnswer h ≡ heightAnswer radices l ds → Lying h
 lying l ds (layers-as.Found above low thick) e = let r = read-inside radices l ds radices-fair (sym e) in omega (arith, r .0, r .1)
 lying l ds (layers-as.Bad p) e = tt

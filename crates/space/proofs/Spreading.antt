@@ -12,8 +12,9 @@ use borrow.Author.Tests.{ltb-true, ltb-false, eqb-true, eqb-false, lt-ltb, lt-le
 use Rattle.grid.specs.Splits.{splitAt}
 use Rattle.grid.specs.Space.{spaceLengths}
 use Rattle.grid.proofs.Cut.{clash, allBelow, below}
-use Rattle.space.specs.Weave.{weave, placeIn, placeOne, placeTwo, spread, stored}
-use Rattle.space.specs.Space.{tenStrands, countFrom, Room}
+use Rattle.space.specs.inner.Weave.{weave, strandPlace, spread, stored}
+use Rattle.space.specs.inner.Asking.{SpaceRoom}
+use Rattle.space.specs.inner.Parts.{tenStrands, countFrom, planePlace, heightPlace}
 use Rattle.space.proofs.Tables.{listed}
 
 -- the line stays as long as it is
@@ -57,7 +58,7 @@ module _ (place many : ℕ → ℕ) (part line : List ℕ) (level : ℕ) where
   pub upto-all : {j : ℕ} {l : List ℕ} → Upto j l → many level ≤ j → l ≡ spread place 0 (take (many level) part) line
   upto-all {j} u h = let z : min (many level) j ≡ many level = omega arith in u .is ∙ rw z refl
 
-  module _ {size : ℕ} (room : Room level line) (full : length part ≡ size) where
+  module _ {size : ℕ} (room : SpaceRoom level line) (full : length part ≡ size) where
     low : 1 ≤ level
     low = room .level-low
 
@@ -117,10 +118,10 @@ each P (suc n) k e h = go (each P n k (e .1)) (eqb k n) refl
 
 -- both parts of a code of level l, stored into a line, are the code from the line's first byte on
 abbrev Both : ℕ → List ℕ → List ℕ → List ℕ → Type 0
-Both l a b line = spread (placeTwo tenStrands) 0 b (spread (placeOne tenStrands) 0 a line) ≡ sets line 0 (weave (take l tenStrands) a b)
+Both l a b line = spread heightPlace 0 b (spread planePlace 0 a line) ≡ sets line 0 (weave (take l tenStrands) a b)
 
 pub both-spread : (l : ℕ) (a b line : List ℕ) → 1 ≤ l → l ≤ 10 → length a ≡ splitAt (l - 1) .length → length b ≡ 2 + l → getD spaceLengths (l - 1) 0 ≤ length line → Both l a b line
-unfolding placeIn weave
+unfolding strandPlace weave planePlace heightPlace
 both-spread zero a b line low high la lb room = absurd (omega arith)
 both-spread (suc l) a b line low high la lb room =
     let n : ℕ → ℕ = λ k. splitAt (suc k - 1) .length in

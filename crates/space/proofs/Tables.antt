@@ -13,8 +13,8 @@ use Rattle.grid.specs.Splits.{splitAt}
 use Rattle.grid.proofs.Cut.{Entry, tabled, below}
 use Rattle.grid.proofs.Lengths.{no-place}
 use Rattle.plane.specs.inner.Lengths.{orZero}
-use Rattle.space.specs.Weave.{placeIn}
-use Rattle.space.specs.Space.{spaceLevelOf, countFrom, planePlace, heightPlace}
+use Rattle.space.specs.inner.Weave.{strandPlace}
+use Rattle.space.specs.inner.Parts.{spaceLevelOf, countFrom, planePlace, heightPlace}
 
 -- ---- levels and lengths
 
@@ -48,7 +48,7 @@ abbrev pub heightPlaces : List ℕ
 heightPlaces = 1 ∷ 5 ∷ 6 ∷ 9 ∷ 11 ∷ 14 ∷ 17 ∷ 19 ∷ 22 ∷ 25 ∷ 28 ∷ 31 ∷ []
 
 pub plane-at : (p : ℕ) → p < 20 → Entry (getD planePlaces p 0) (planePlace p)
-unfolding placeIn planePlace
+unfolding strandPlace planePlace
 plane-at p h = tabled planePlaces planePlace 20 p refl h
 
 pub plane-none : (p : ℕ) → 20 ≤ p → 0 ≡ planePlace p
@@ -56,7 +56,7 @@ unfolding planePlace
 plane-none p h = rw (le-ltb p 20 h) refl
 
 pub height-at : (p : ℕ) → p < 12 → Entry (getD heightPlaces p 0) (heightPlace p)
-unfolding placeIn heightPlace
+unfolding strandPlace heightPlace
 height-at p h = tabled heightPlaces heightPlace 12 p refl h
 
 pub height-none : (p : ℕ) → 12 ≤ p → 0 ≡ heightPlace p

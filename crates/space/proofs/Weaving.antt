@@ -16,25 +16,25 @@ use Rattle.grid.proofs.Lists.{take-map, drop-map}
 use Rattle.grid.proofs.Laws.{Laws, total}
 use Rattle.grid.proofs.Places.{first-inside, second-inside, first-length, second-length, first-digit, second-digit}
 use Rattle.grid.proofs.BothLaws.{ones, twos, adds, first-mix, second-mix, InBoth, GoodBoth}
-use Rattle.space.specs.Weave.{Strand, weave, both-of, parts, placeIn, firsts, seconds, placeOne, placeTwo, together}
+use Rattle.space.specs.inner.Weave.{Strand, weave, both-of, parts, strandPlace, firsts, seconds, placeOne, placeTwo, together}
 
 -- ---- places
 
 module _ (t : Strand) (ts : List Strand) where
   one-here : (p : ℕ) → p < t .one → placeOne (t ∷ ts) p ≡ firstPlace (t .lead) p
-  unfolding placeIn
+  unfolding strandPlace
   one-here p h = rw (lt-ltb p (t .one) h) refl
 
   one-later : (p : ℕ) → placeOne (t ∷ ts) (t .one + p) ≡ t .one + t .two + placeOne ts p
-  unfolding placeIn
+  unfolding strandPlace
   one-later p = rw (le-ltb (t .one + p) (t .one) (omega arith)) (ap (λ (x : ℕ). t .one + t .two + placeOne ts x) (let z : t .one + p - t .one ≡ p = omega arith in z))
 
   two-here : (p : ℕ) → p < t .two → placeTwo (t ∷ ts) p ≡ secondPlace (t .lead) (t .one) p
-  unfolding placeIn
+  unfolding strandPlace
   two-here p h = rw (lt-ltb p (t .two) h) refl
 
   two-later : (p : ℕ) → placeTwo (t ∷ ts) (t .two + p) ≡ t .one + t .two + placeTwo ts p
-  unfolding placeIn
+  unfolding strandPlace
   two-later p = rw (le-ltb (t .two + p) (t .two) (omega arith)) (ap (λ (x : ℕ). t .one + t .two + placeTwo ts x) (let z : t .two + p - t .two ≡ p = omega arith in z))
 
   shift-together : {A B : Type 0} (x : Read A) (y : Read B) → shift (t .one + t .two) (together ts x y) ≡ together (t ∷ ts) (shift (t .one) x) (shift (t .two) y)
@@ -214,8 +214,8 @@ module _ {part : Strand → List ℕ → List ℕ} {count : Strand → ℕ} {pla
       length-append (part t (take (both-of t) w)) _ ∙ omega arith
 
   pub part-digit : (ts : List Strand) (w : List ℕ) (p : ℕ) → each-some ts ≡ true → length w ≡ counted both-of ts → p < counted count ts
-      → getD (parts part ts w) p 0 ≡ getD w (placeIn count place ts p) 0
-  unfolding parts placeIn
+      → getD (parts part ts w) p 0 ≡ getD w (strandPlace count place ts p) 0
+  unfolding parts strandPlace
   part-digit [] w p e l h = absurd (omega arith)
   part-digit (t ∷ ts) w p e l h = go (part-digit ts (drop (both-of t) w) (p - count t)) (ltb p (count t)) refl
     where
@@ -234,8 +234,8 @@ module _ {part : Strand → List ℕ → List ℕ} {count : Strand → ℕ} {pla
       lp : length (part t d) ≡ count t
       lp = S .long t d (s .0) (s .1) ld
 
-      go : (each-some ts ≡ true → length r ≡ counted both-of ts → p - count t < counted count ts → getD (parts part ts r) (p - count t) 0 ≡ getD r (placeIn count place ts (p - count t)) 0)
-          → (q : Bool) → ltb p (count t) ≡ q → getD (part t d ++ parts part ts r) p 0 ≡ getD w (cond q (place t p) (both-of t + placeIn count place ts (p - count t))) 0
+      go : (each-some ts ≡ true → length r ≡ counted both-of ts → p - count t < counted count ts → getD (parts part ts r) (p - count t) 0 ≡ getD r (strandPlace count place ts (p - count t)) 0)
+          → (q : Bool) → ltb p (count t) ≡ q → getD (part t d ++ parts part ts r) p 0 ≡ getD w (cond q (place t p) (both-of t + strandPlace count place ts (p - count t))) 0
       go ih true q =
           let k : p < count t = ltb-true p _ q in
           List·getD-append (part t d) (parts part ts r) 0 p (omega (arith, lp, k))
@@ -247,17 +247,17 @@ module _ {part : Strand → List ℕ → List ℕ} {count : Strand → ℕ} {pla
           ap (λ (i : ℕ). getD (part t d ++ parts part ts r) i 0) (sym z)
           ∙ getD-append-add (part t d) (parts part ts r) (p - count t) 0
           ∙ ih (s .2) (length-drop (both-of t) w ∙ omega arith) (omega (arith, k))
-          ∙ getD-drop (both-of t) w (placeIn count place ts (p - count t)) 0
+          ∙ getD-drop (both-of t) w (strandPlace count place ts (p - count t)) 0
 
   -- fewer levels, the same places
-  pub place-fewer : (l : ℕ) (ts : List Strand) (p : ℕ) → p < counted count (take l ts) → placeIn count place (take l ts) p ≡ placeIn count place ts p
-  unfolding placeIn
+  pub place-fewer : (l : ℕ) (ts : List Strand) (p : ℕ) → p < counted count (take l ts) → strandPlace count place (take l ts) p ≡ strandPlace count place ts p
+  unfolding strandPlace
   place-fewer zero ts p h = absurd (omega arith)
   place-fewer (suc l) [] p h = refl
   place-fewer (suc l) (t ∷ ts) p h = go (place-fewer l ts (p - count t)) (ltb p (count t)) refl
     where
-      go : (p - count t < counted count (take l ts) → placeIn count place (take l ts) (p - count t) ≡ placeIn count place ts (p - count t))
-          → (q : Bool) → ltb p (count t) ≡ q → cond q (place t p) (both-of t + placeIn count place (take l ts) (p - count t)) ≡ cond q (place t p) (both-of t + placeIn count place ts (p - count t))
+      go : (p - count t < counted count (take l ts) → strandPlace count place (take l ts) (p - count t) ≡ strandPlace count place ts (p - count t))
+          → (q : Bool) → ltb p (count t) ≡ q → cond q (place t p) (both-of t + strandPlace count place (take l ts) (p - count t)) ≡ cond q (place t p) (both-of t + strandPlace count place ts (p - count t))
       go ih true q = refl
       go ih false q = let k : count t ≤ p = ltb-false p _ q in ap (λ (i : ℕ). both-of t + i) (ih (omega (arith, k)))
 

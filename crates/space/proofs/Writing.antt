@@ -12,11 +12,11 @@ use lib.Seq.{sets, sets-eq, take-at}
 use borrow.Author.Tests.{lt-ltb}
 use Rattle.grid.specs.declared.Place.{Place}
 use Rattle.grid.specs.declared.Refusal.{Refusal}
-use Rattle.grid.specs.Units.{HALF, QUARTER, side, index, Square, Cube, OnGrid}
+use Rattle.grid.specs.Units.{HALF, QUARTER, LAYERS, side, index, Square, Cube, OnGrid}
 use Rattle.grid.specs.inner.Roads.{squareOf}
 use Rattle.grid.specs.Characters.{charOf}
 use Rattle.grid.specs.Tree.{code}
-use Rattle.grid.specs.Answers.{refusal}
+use Rattle.grid.specs.Answers.{Answer, accepted, refused}
 use Rattle.grid.specs.Codes.{codeIn}
 use Rattle.grid.specs.Laying.{Text, refuse, text, unless}
 use Rattle.grid.specs.Splits.{splits, splitAt}
@@ -28,8 +28,8 @@ use Rattle.grid.proofs.PlaneLaws.{laws, index-unit}
 use Rattle.grid.proofs.LayerLaws.{layer-laws}
 use Rattle.grid.proofs.Families.{length-codeIn}
 use Rattle.grid.proofs.Theorems.{radices-sound, space-sound}
-use Rattle.layers.specs.Heights.{heightLevels, heightDigits, layerOf, askedOf}
-use Rattle.layers.specs.declared.AskedLayer.the-variants as layer-as
+use Rattle.layers.specs.Heights.{outsideLayers, askedOf, heightLevels}
+use Rattle.layers.specs.inner.Steps.{layerOf, heightDigits}
 use Rattle.layers.proofs.Radices.{radices-fair}
 use Rattle.layers.proofs.Digits.{height-length}
 use Rattle.layers.proofs.Sides.{asked-at, layer-in}
@@ -38,8 +38,10 @@ use Rattle.plane.specs.declared.Asked.the-variants as plane-as
 use Rattle.plane.specs.Text.{levelNumber, planeText}
 use Rattle.plane.specs.inner.Asking.{askedText, Fitting, Same}
 use Rattle.plane.proofs.Reading.{code-length, on-globe}
-use Rattle.space.specs.Weave.{weave, placeOne, placeTwo, spread}
-use Rattle.space.specs.Space.{spaceText, layeredText, askedSpaceText, tenStrands, Fits, FittingSpace}
+use Rattle.space.specs.inner.Weave.{weave, spread}
+use Rattle.space.specs.Space.{spaceText, layeredText}
+use Rattle.space.specs.inner.Asking.{askedSpaceText, SpaceFits, FittingSpace}
+use Rattle.space.specs.inner.Parts.{tenStrands, planePlace, heightPlace}
 use Rattle.space.specs.declared.AskedSpace.{AskedSpace}
 use Rattle.space.specs.declared.AskedSpace.the-variants as space-as
 use Rattle.space.proofs.Weaving.{code-woven, weave-map}
@@ -55,7 +57,7 @@ code-parts l h s o =
     ∙ rw (plane-levels l, height-levels l, level-strands l) (weave-map charOf (take l tenStrands) (code plane (take l splits) globe (s .0)) (code (layers top) (take l (heightLevels radices)) all (s .1)))
 
 -- a place and a layer on the grid
-on-grid-at : (p : Place) (l n : ℕ) (above : Bool) → Fits l p n → OnGrid (squareOf p, layerOf top above n)
+on-grid-at : (p : Place) (l n : ℕ) (above : Bool) → SpaceFits l p n → OnGrid (squareOf p, layerOf top above n)
 on-grid-at p l n above f = record { on-globe = on-globe p (f .wide) (f .high); layer-in = layer-in top above n (f .rise-in) }
 
 -- characters stored from the start of a line are its beginning
@@ -63,9 +65,9 @@ take-stored : (l w : List ℕ) {n : ℕ} → length w ≡ n → n ≤ length l �
 take-stored l w {n} e h = ap (take n) (sets-eq w l 0 (omega arith)) ∙ take-at w _ n e
 
 -- the plane code and the height characters, built apart and stored each at its place, are the space code
-pub put-code : (l : ℕ) (p : Place) (above : Bool) (n : ℕ) (fp fh line : List ℕ) {flat high mid last : List ℕ} → Fits l p n → length fp ≡ 20 → length fh ≡ 12 → getD spaceLengths (l - 1) 0 ≤ length line
-    → flat ≡ sets fp 0 (codeOf l (squareOf p)) → mid ≡ spread (placeOne tenStrands) 0 (take (splitAt (l - 1) .length) flat) line
-    → high ≡ sets fh 0 (map charOf (heightDigits radices l (layerOf top above n))) → last ≡ spread (placeTwo tenStrands) 0 (take (2 + l) high) mid
+pub put-code : (l : ℕ) (p : Place) (above : Bool) (n : ℕ) (fp fh line : List ℕ) {flat high mid last : List ℕ} → SpaceFits l p n → length fp ≡ 20 → length fh ≡ 12 → getD spaceLengths (l - 1) 0 ≤ length line
+    → flat ≡ sets fp 0 (codeOf l (squareOf p)) → mid ≡ spread planePlace 0 (take (splitAt (l - 1) .length) flat) line
+    → high ≡ sets fh 0 (map charOf (heightDigits radices l (layerOf top above n))) → last ≡ spread heightPlace 0 (take (2 + l) high) mid
     → last ≡ sets line 0 (spaceCodeOf l (squareOf p, layerOf top above n))
 put-code l p above n fp fh line f lp lh room ep em eh el =
     let o = on-grid-at p l n above f in
@@ -80,17 +82,17 @@ put-code l p above n fp fh line f lp lh room ep em eh el =
 -- ---- what was asked for
 
 module _ (l : ℕ) (s : Square) (z : ℤ) where
-  pub layered-at : {above : Bool} {n : ℕ} → askedOf radices z ≡ layer-as.At above n → text (spaceCodeOf l (s, layerOf top above n)) ≡ layeredText l s z
+  pub layered-at : {above : Bool} {n : ℕ} → askedOf radices z ≡ accepted (above, n) → text (spaceCodeOf l (s, layerOf top above n)) ≡ layeredText l s z
   unfolding layeredText
   layered-at e =
       let a = asked-at radices z e in
-      ap (λ (x : ℤ). text (spaceCodeOf l (s, x))) (a .2) ∙ rw (lt-ltb (index z) 1887436800 (a .0)) refl
+      ap (λ (x : ℤ). text (spaceCodeOf l (s, x))) (a .2) ∙ rw (lt-ltb (index z) LAYERS (a .0)) refl
 
-  pub layered-out : askedOf radices z ≡ layer-as.Outside → refuse (refusal 4 0) ≡ layeredText l s z
+  pub layered-out : askedOf radices z ≡ refused outsideLayers → refuse outsideLayers ≡ layeredText l s z
   unfolding layeredText
-  layered-out e = go (ltb (index z) 1887436800) e
+  layered-out e = go (ltb (index z) LAYERS) e
     where
-      go : (q : Bool) → cond q (layer-as.At (side z) (rise top z)) layer-as.Outside ≡ layer-as.Outside → refuse (refusal 4 0) ≡ unless q 4 (text (spaceCodeOf l (s, z)))
+      go : (q : Bool) → cond {A = Answer (Bool × ℕ)} q (accepted (side z, rise top z)) (refused outsideLayers) ≡ refused outsideLayers → refuse outsideLayers ≡ unless q 4 (text (spaceCodeOf l (s, z)))
       go true e = clash (cc)
       go false e = refl
 
@@ -122,8 +124,8 @@ module _ (level longitude latitude layer : ℤ) where
       rw (
         ← k,
         lt-ltb 0 l (t .0),
-        lt-ltb (index longitude) 1327104000 (omega (arith, x, t .2)),
-        lt-ltb (index latitude) 663552000 (omega (arith, y, t .3)),
+        lt-ltb (index longitude) HALF (omega (arith, x, t .2)),
+        lt-ltb (index latitude) QUARTER (omega (arith, y, t .3)),
         u .1,
       ) refl
 
@@ -133,10 +135,10 @@ asked-space-at e f = ap askedSpaceText (sym e) ∙ f
 pub asked-space-unmet : {a : AskedSpace} {r : Refusal} {t : Text} → a ≡ space-as.Unmet r → askedSpaceText a ≡ t → t ≡ refuse r
 asked-space-unmet e f = sym f ∙ ap askedSpaceText e
 
-pub fits-at : {a : AskedSpace} {l : ℕ} {p : Place} {above : Bool} {n : ℕ} → a ≡ space-as.At l p above n → FittingSpace a → Fits l p n
+pub fits-at : {a : AskedSpace} {l : ℕ} {p : Place} {above : Bool} {n : ℕ} → a ≡ space-as.At l p above n → FittingSpace a → SpaceFits l p n
 fits-at e f = subst FittingSpace e f
 
-pub space-length : (l : ℕ) (p : Place) (n : ℕ) (above : Bool) → Fits l p n → length (spaceCodeOf l (squareOf p, layerOf top above n)) ≡ getD spaceLengths (l - 1) 0
+pub space-length : (l : ℕ) (p : Place) (n : ℕ) (above : Bool) → SpaceFits l p n → length (spaceCodeOf l (squareOf p, layerOf top above n)) ≡ getD spaceLengths (l - 1) 0
 unfolding spaceCodeOf spaceCodes radices-sound space-sound
 space-length l p n above f =
     length-codeIn (spaceCodes radices) radices-sound l (squareOf p, layerOf top above n) (on-grid-at p l n above f) (f .level-high) ∙ ten l (f .level-low) (f .level-high) .sum

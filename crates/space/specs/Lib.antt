@@ -1,2 +1,2 @@
-pub mod Weave
 pub mod Space
+pub mod inner

@@ -6,7 +6,8 @@ ghost use mathlib.Core.List.{map};
 ghost use Prim.Native.Nat.{_+_, _-_, _≤_, _<_, min};
 ghost use lib.ListN.{length, getD, take};
 ghost use lib.Seq.{sets};
-ghost use Rattle.grid.specs.Answers.{refused, wrongCharacter, planeRead};
+ghost use Rattle.grid.specs.Units.{HALF, QUARTER};
+ghost use Rattle.grid.specs.Answers.{accepted, refused, wrongCharacter, planeRead};
 ghost use Rattle.grid.specs.Laying.{text, laid, written};
 ghost use Rattle.grid.specs.Space.{spaceCodeOf, spaceCellOf, spaceLengths};
 ghost use Rattle.grid.specs.inner.Roads.{squareOf};
@@ -14,27 +15,13 @@ ghost use Rattle.grid.specs.Characters.{digitOf};
 ghost use Rattle.grid.specs.Splits.{splitAt};
 ghost use Rattle.grid.specs.Plane.{cellOf};
 ghost use Rattle.grid.specs.Layers.{radices, product, part};
-ghost use Rattle.grid.specs.Tree.{ok, bad};
-ghost use Rattle.layers.specs.Heights.{layersRead, heightRead, layerOf};
-ghost use Rattle.space.specs.Weave.{placeOne, placeTwo, spread, stored};
+ghost use Rattle.layers.specs.Heights.{heightAnswer, layersAnswer};
+ghost use Rattle.layers.specs.inner.Steps.{layerOf};
+ghost use Rattle.space.specs.inner.Weave.{spread, stored};
 ghost use lib.Dec.{ltb};
-ghost use Rattle.space.specs.Space.{
-  spaceText,
-  layeredText,
-  askedSpaceText,
-  Fits,
-  Room,
-  FittingSpace,
-  spaceRead,
-  spaceLevelOf,
-  tenStrands,
-  planePart,
-  heightPart,
-  planePlace,
-  heightPlace,
-  joinedAnswer,
-  Lying,
-};
+ghost use Rattle.space.specs.Space.{spaceText, layeredText, spaceRead};
+ghost use Rattle.space.specs.inner.Asking.{askedSpaceText, SpaceFits, SpaceRoom, FittingSpace};
+ghost use Rattle.space.specs.inner.Parts.{spaceLevelOf, planePart, heightPart, planePlace, heightPlace, joinedAnswer, Lying};
 use grid::Cell;
 use grid::Place;
 use grid::PlaneRead;
@@ -103,62 +90,7 @@ fn length_of(level: u32) -> usize
     plane::length_of(level) + 2 + level as usize
 }
 
-// ---- taken apart
-
-// The byte at a place, 0 past the end.
-fn byte_at(code: &[u8], i: usize) -> u8
-    ensures { λ r. ⌜ r ≡ getD (now (code .entry)) i 0 ⌝ }
-{
-    if i < code.len() { code[i] } else { 0 }
-}
-
-// The plane characters of a space code.
-fn plane_part(code: &[u8]) -> [u8; 20]
-    ensures { λ r. ⌜ r ≡ planePart (now (code .entry)) ⌝ }
-{
-    [
-        byte_at(code, 0),
-        byte_at(code, 2),
-        byte_at(code, 3),
-        byte_at(code, 4),
-        byte_at(code, 7),
-        byte_at(code, 8),
-        byte_at(code, 10),
-        byte_at(code, 12),
-        byte_at(code, 13),
-        byte_at(code, 15),
-        byte_at(code, 16),
-        byte_at(code, 18),
-        byte_at(code, 20),
-        byte_at(code, 21),
-        byte_at(code, 23),
-        byte_at(code, 24),
-        byte_at(code, 26),
-        byte_at(code, 27),
-        byte_at(code, 29),
-        byte_at(code, 30),
-    ]
-}
-
-// The height characters of a space code.
-fn height_part(code: &[u8]) -> [u8; 12]
-    ensures { λ r. ⌜ r ≡ heightPart (now (code .entry)) ⌝ }
-{
-    [
-        byte_at(code, 1),
-        byte_at(code, 5),
-        byte_at(code, 6),
-        byte_at(code, 9),
-        byte_at(code, 11),
-        byte_at(code, 14),
-        byte_at(code, 17),
-        byte_at(code, 19),
-        byte_at(code, 22),
-        byte_at(code, 25),
-        byte_at(code, 28),
-        byte_at(code, 31),
-    ]
-}
+// ---- places
 
 // Where a plane character, or a height character, stands in a space code.
 const PLANE_PLACES: [u8; 20] = [
@@ -186,16 +118,89 @@ const PLANE_PLACES: [u8; 20] = [
 
 const HEIGHT_PLACES: [u8; 12] = [1, 5, 6, 9, 11, 14, 17, 19, 22, 25, 28, 31];
 
+// That place for the plane character p; 0 for a place that there is not.
 fn plane_place(p: usize) -> usize
     ensures { λ r. ⌜ r ≡ planePlace p ⌝ }
 {
     if p < 20 { PLANE_PLACES[p] as usize } else { 0 }
 }
 
+// And for the height character p.
 fn height_place(p: usize) -> usize
     ensures { λ r. ⌜ r ≡ heightPlace p ⌝ }
 {
     if p < 12 { HEIGHT_PLACES[p] as usize } else { 0 }
+}
+
+// ---- taken apart
+
+// The byte at a place, 0 past the end.
+fn byte_at(code: &[u8], i: usize) -> u8
+    ensures { λ r. ⌜ r ≡ getD (now (code .entry)) i 0 ⌝ }
+{
+    if i < code.len() { code[i] } else { 0 }
+}
+
+// The plane character p of a space code.
+fn plane_byte(code: &[u8], p: usize) -> u8
+    ensures { λ r. ⌜ r ≡ getD (now (code .entry)) (planePlace p) 0 ⌝ }
+{
+    byte_at(code, plane_place(p))
+}
+
+// The height character p of a space code.
+fn height_byte(code: &[u8], p: usize) -> u8
+    ensures { λ r. ⌜ r ≡ getD (now (code .entry)) (heightPlace p) 0 ⌝ }
+{
+    byte_at(code, height_place(p))
+}
+
+// The plane characters of a space code.
+fn plane_part(code: &[u8]) -> [u8; 20]
+    ensures { λ r. ⌜ r ≡ planePart (now (code .entry)) ⌝ }
+{
+    [
+        plane_byte(code, 0),
+        plane_byte(code, 1),
+        plane_byte(code, 2),
+        plane_byte(code, 3),
+        plane_byte(code, 4),
+        plane_byte(code, 5),
+        plane_byte(code, 6),
+        plane_byte(code, 7),
+        plane_byte(code, 8),
+        plane_byte(code, 9),
+        plane_byte(code, 10),
+        plane_byte(code, 11),
+        plane_byte(code, 12),
+        plane_byte(code, 13),
+        plane_byte(code, 14),
+        plane_byte(code, 15),
+        plane_byte(code, 16),
+        plane_byte(code, 17),
+        plane_byte(code, 18),
+        plane_byte(code, 19),
+    ]
+}
+
+// The height characters of a space code.
+fn height_part(code: &[u8]) -> [u8; 12]
+    ensures { λ r. ⌜ r ≡ heightPart (now (code .entry)) ⌝ }
+{
+    [
+        height_byte(code, 0),
+        height_byte(code, 1),
+        height_byte(code, 2),
+        height_byte(code, 3),
+        height_byte(code, 4),
+        height_byte(code, 5),
+        height_byte(code, 6),
+        height_byte(code, 7),
+        height_byte(code, 8),
+        height_byte(code, 9),
+        height_byte(code, 10),
+        height_byte(code, 11),
+    ]
 }
 
 // ---- writing
@@ -208,7 +213,7 @@ enum AskedSpace {
 
 // Refusal 4, else the layer's side and rise.
 fn over(l: u32, p: Place, layer: i64) -> AskedSpace
-    requires { ⌜ (1 ≤ l) × (l ≤ 10) × (p .x < 1327104000) × (p .y < 663552000) ⌝ }
+    requires { ⌜ (1 ≤ l) × (l ≤ 10) × (p .x < HALF) × (p .y < QUARTER) ⌝ }
     ensures { λ r. ⌜ (askedSpaceText r ≡ layeredText l (squareOf p) layer) × FittingSpace r ⌝ }
 {
     match layers::ask_layer(layer) {
@@ -238,58 +243,96 @@ fn one(level: u32, k: u32, part: &[u8], i: usize, line: &mut [u8], at: usize)
     line[at] = part[i];
 }
 
-// That character and the next, side by side.
-fn two(level: u32, k: u32, part: &[u8], i: usize, line: &mut [u8], at: usize)
-    requires { ⌜ (i + 1 < length (now part)) × (k < level → at + 1 < length (now line)) ⌝ }
-    ensures { λ _. ⌜ now (line .exit) ≡ stored (ltb k level) (at + 1) (getD (now (part .entry)) (i + 1) 0) (stored (ltb k level) at (getD (now (part .entry)) i 0) (now (line .entry))) ⌝ }
+// That character and the next, at two places.
+fn two(level: u32, k: u32, part: &[u8], i: usize, line: &mut [u8], at: usize, then: usize)
+    requires { ⌜ (i + 1 < length (now part)) × (k < level → at < length (now line)) × (k < level → then < length (now line)) ⌝ }
+    ensures { λ _. ⌜ now (line .exit) ≡ stored (ltb k level) then (getD (now (part .entry)) (i + 1) 0) (stored (ltb k level) at (getD (now (part .entry)) i 0) (now (line .entry))) ⌝ }
 {
     if level <= k {
         return;
     }
     line[at] = part[i];
-    line[at + 1] = part[i + 1];
+    line[then] = part[i + 1];
+}
+
+// The plane character i at its place in the space code; and that one and the next.
+fn plane_one(level: u32, k: u32, part: &[u8], i: usize, line: &mut [u8])
+    requires { ⌜ (i < length (now part)) × (k < level → planePlace i < length (now line)) ⌝ }
+    ensures { λ _. ⌜ now (line .exit) ≡ stored (ltb k level) (planePlace i) (getD (now (part .entry)) i 0) (now (line .entry)) ⌝ }
+{
+    one(level, k, part, i, line, plane_place(i));
+}
+
+fn plane_two(level: u32, k: u32, part: &[u8], i: usize, line: &mut [u8])
+    requires { ⌜ (i + 1 < length (now part)) × (k < level → planePlace i < length (now line)) × (k < level → planePlace (i + 1) < length (now line)) ⌝ }
+    ensures { λ _. ⌜ now (line .exit) ≡ stored (ltb k level) (planePlace (i + 1)) (getD (now (part .entry)) (i + 1) 0) (stored (ltb k level) (planePlace i) (getD (now (part .entry)) i 0) (now (line .entry))) ⌝ }
+{
+    two(level, k, part, i, line, plane_place(i), plane_place(i + 1));
 }
 
 // The plane characters of a code of a level, each at its place in the space code.
 fn lay_plane(level: u32, part: &[u8], line: &mut [u8])
-    requires { ⌜ Room level (now line) × (length (now part) ≡ 20) ⌝ }
-    ensures { λ _. ⌜ now (line .exit) ≡ spread (placeOne tenStrands) 0 (take (splitAt (level - 1) .length) (now (part .entry))) (now (line .entry)) ⌝ }
+    requires { ⌜ SpaceRoom level (now line) × (length (now part) ≡ 20) ⌝ }
+    ensures { λ _. ⌜ now (line .exit) ≡ spread planePlace 0 (take (splitAt (level - 1) .length) (now (part .entry))) (now (line .entry)) ⌝ }
 {
-    one(level, 0, part, 0, line, 0);
-    one(level, 0, part, 1, line, 2);
-    two(level, 0, part, 2, line, 3);
-    two(level, 1, part, 4, line, 7);
-    one(level, 2, part, 6, line, 10);
-    two(level, 3, part, 7, line, 12);
-    two(level, 4, part, 9, line, 15);
-    one(level, 5, part, 11, line, 18);
-    two(level, 6, part, 12, line, 20);
-    two(level, 7, part, 14, line, 23);
-    two(level, 8, part, 16, line, 26);
-    two(level, 9, part, 18, line, 29);
+    plane_one(level, 0, part, 0, line);
+    plane_one(level, 0, part, 1, line);
+    plane_two(level, 0, part, 2, line);
+    plane_two(level, 1, part, 4, line);
+    plane_one(level, 2, part, 6, line);
+    plane_two(level, 3, part, 7, line);
+    plane_two(level, 4, part, 9, line);
+    plane_one(level, 5, part, 11, line);
+    plane_two(level, 6, part, 12, line);
+    plane_two(level, 7, part, 14, line);
+    plane_two(level, 8, part, 16, line);
+    plane_two(level, 9, part, 18, line);
+}
+
+// The height character i at its place in the space code; and that one and the next.
+fn height_one(level: u32, k: u32, part: &[u8], i: usize, line: &mut [u8])
+    requires { ⌜ (i < length (now part)) × (k < level → heightPlace i < length (now line)) ⌝ }
+    ensures { λ _. ⌜ now (line .exit) ≡ stored (ltb k level) (heightPlace i) (getD (now (part .entry)) i 0) (now (line .entry)) ⌝ }
+{
+    one(level, k, part, i, line, height_place(i));
+}
+
+fn height_two(level: u32, k: u32, part: &[u8], i: usize, line: &mut [u8])
+    requires { ⌜ (i + 1 < length (now part)) × (k < level → heightPlace i < length (now line)) × (k < level → heightPlace (i + 1) < length (now line)) ⌝ }
+    ensures { λ _. ⌜ now (line .exit) ≡ stored (ltb k level) (heightPlace (i + 1)) (getD (now (part .entry)) (i + 1) 0) (stored (ltb k level) (heightPlace i) (getD (now (part .entry)) i 0) (now (line .entry))) ⌝ }
+{
+    two(
+        level,
+        k,
+        part,
+        i,
+        line,
+        height_place(i),
+        height_place(i + 1),
+    );
 }
 
 // The height characters of a code of a level, each at its place in the space code.
 fn lay_height(level: u32, part: &[u8], line: &mut [u8])
-    requires { ⌜ Room level (now line) × (length (now part) ≡ 12) ⌝ }
-    ensures { λ _. ⌜ now (line .exit) ≡ spread (placeTwo tenStrands) 0 (take (2 + level) (now (part .entry))) (now (line .entry)) ⌝ }
+    requires { ⌜ SpaceRoom level (now line) × (length (now part) ≡ 12) ⌝ }
+    ensures { λ _. ⌜ now (line .exit) ≡ spread heightPlace 0 (take (2 + level) (now (part .entry))) (now (line .entry)) ⌝ }
 {
-    one(level, 0, part, 0, line, 1);
-    two(level, 0, part, 1, line, 5);
-    one(level, 1, part, 3, line, 9);
-    one(level, 2, part, 4, line, 11);
-    one(level, 3, part, 5, line, 14);
-    one(level, 4, part, 6, line, 17);
-    one(level, 5, part, 7, line, 19);
-    one(level, 6, part, 8, line, 22);
-    one(level, 7, part, 9, line, 25);
-    one(level, 8, part, 10, line, 28);
-    one(level, 9, part, 11, line, 31);
+    height_one(level, 0, part, 0, line);
+    height_two(level, 0, part, 1, line);
+    height_one(level, 1, part, 3, line);
+    height_one(level, 2, part, 4, line);
+    height_one(level, 3, part, 5, line);
+    height_one(level, 4, part, 6, line);
+    height_one(level, 5, part, 7, line);
+    height_one(level, 6, part, 8, line);
+    height_one(level, 7, part, 9, line);
+    height_one(level, 8, part, 10, line);
+    height_one(level, 9, part, 11, line);
 }
 
 // Writes the space code from the line's first byte on: the plane characters and the height characters, built apart and laid each at its place.
 fn put(l: u32, p: Place, above: bool, rise: u32, line: &mut [u8])
-    requires { ⌜ Fits l p rise × (getD spaceLengths (l - 1) 0 ≤ length (now line)) ⌝ }
+    requires { ⌜ SpaceFits l p rise × (getD spaceLengths (l - 1) 0 ≤ length (now line)) ⌝ }
     ensures { λ _. ⌜ now (line .exit) ≡ sets (now (line .entry)) 0 (spaceCodeOf l (squareOf p, layerOf (product radices) above rise)) ⌝ }
 {
     let mut flat = [0u8; 20];
@@ -302,7 +345,7 @@ fn put(l: u32, p: Place, above: bool, rise: u32, line: &mut [u8])
 
 // Lays the space code into the line from `at` on, if there is room: refusal 5, else the number of bytes.
 fn lay(l: u32, p: Place, above: bool, rise: u32, line: &mut [u8], at: usize) -> Written
-    requires { ⌜ Fits l p rise ⌝ }
+    requires { ⌜ SpaceFits l p rise ⌝ }
     ensures { λ r. ⌜ (written r, now (line .exit)) ≡ laid (text (spaceCodeOf l (squareOf p, layerOf (product radices) above rise))) (now (line .entry)) at ⌝ }
 {
     let n = length_of(l);
@@ -356,7 +399,7 @@ fn lesser(a: usize, b: usize) -> usize
 // The plane's answer over layers that were read: the cell with them, or the bad plane character.
 fn over_layers(a: PlaneRead, above: bool, low: u32, thick: u32) -> SpaceRead
     requires { ⌜ low < product radices ⌝ }
-    ensures { λ r. ⌜ spaceRead r ≡ joinedAnswer (planeRead a) (ok (part above low thick)) ⌝ }
+    ensures { λ r. ⌜ spaceRead r ≡ joinedAnswer (planeRead a) (accepted (part above low thick)) ⌝ }
 {
     match a {
         PlaneRead::Found(c) => SpaceRead::Found(SpaceCell {
@@ -370,7 +413,7 @@ fn over_layers(a: PlaneRead, above: bool, low: u32, thick: u32) -> SpaceRead
 
 // A bad height character, unless a bad plane character stands before it.
 fn over_bad(a: PlaneRead, p: usize) -> SpaceRead
-    ensures { λ r. ⌜ spaceRead r ≡ joinedAnswer (planeRead a) (bad p) ⌝ }
+    ensures { λ r. ⌜ spaceRead r ≡ joinedAnswer (planeRead a) (refused (wrongCharacter p)) ⌝ }
 {
     let high = height_place(p);
     match a {
@@ -382,7 +425,7 @@ fn over_bad(a: PlaneRead, p: usize) -> SpaceRead
 // Both answers together.
 fn joined(a: PlaneRead, h: LayersRead) -> SpaceRead
     requires { ⌜ Lying h ⌝ }
-    ensures { λ r. ⌜ spaceRead r ≡ joinedAnswer (planeRead a) (layersRead h) ⌝ }
+    ensures { λ r. ⌜ spaceRead r ≡ joinedAnswer (planeRead a) (layersAnswer h) ⌝ }
 {
     match h {
         LayersRead::Found(above, low, thick) => over_layers(a, above, low, thick),
@@ -403,7 +446,7 @@ fn plane_of(level: u32, code: &[u8]) -> PlaneRead
 // The height characters of a space code, read.
 fn height_of(level: u32, code: &[u8]) -> LayersRead
     requires { ⌜ (1 ≤ level) × (level ≤ 10) ⌝ }
-    ensures { λ r. ⌜ layersRead r ≡ heightRead radices level (map digitOf (take (2 + level) (heightPart (now (code .entry))))) ⌝ }
+    ensures { λ r. ⌜ layersAnswer r ≡ heightAnswer radices level (map digitOf (take (2 + level) (heightPart (now (code .entry))))) ⌝ }
 {
     let h = height_part(code);
     let n = 2 + level as usize;

@@ -16,22 +16,19 @@ cast-if1 c = search needs
 returns : tie.Need-returns
 returns c = let s = c .before .before .before in asked-outside (s .args .rs) (s .fits .layer) (c .before .before .thickness .ensures) (c .before .outward .ensures) (c .if1 .taken)
 
-sub-t8 : tie.Need-sub-t8
-sub-t8 c = search needs
+cast-below-ground : tie.Need-cast-below-ground
+cast-below-ground c = search needs
 
-cast-t9 : tie.Need-cast-t9
-cast-t9 c = search needs
+below-ground-requires : tie.Need-below-ground-requires
+below-ground-requires c κs = search needs
 
-sub-t10 : tie.Need-sub-t10
-sub-t10 c = search needs
-
-cast-t11 : tie.Need-cast-t11
-cast-t11 c = search needs
+cast-t10 : tie.Need-cast-t10
+cast-t10 c = search needs
 
 returns-2 : tie.Need-returns-2
 returns-2 c =
-    let s = c .before .before .before .before in
-    asked-below (s .args .rs) (s .fits .layer) (c .before .before .before .thickness .ensures) (c .before .before .outward .ensures) (c .before .if1 .left) (c .if2 .taken)
+    let s = c .before .before .before .before .before in
+    asked-below (s .args .rs) (s .fits .layer) (c .before .before .before .before .thickness .ensures) (c .before .before .before .outward .ensures) (c .below-ground .ensures) (c .before .before .if1 .left) (c .before .if2 .taken)
 
 returns-3 : tie.Need-returns-3
 returns-3 c =
@@ -46,9 +43,8 @@ ask-over-spec =
     outward-requires
     cast-if1
     returns
-    sub-t8
-    cast-t9
-    sub-t10
-    cast-t11
+    cast-below-ground
+    below-ground-requires
+    cast-t10
     returns-2
     returns-3)

@@ -4,7 +4,7 @@ use mathlib.Core.List.{List}
 use Prim.Native.Nat.{ℕ, _+_, _-_, _*_, _≤_, _<_}
 use native.Mathlib.Omega.{arith}
 use lib.ListN.{getD}
-use Rattle.layers.specs.Steps.{Fair, thicknessAt}
+use Rattle.layers.specs.inner.Steps.{Fair, thicknessAt}
 use Rattle.layers.proofs.Radices.{thick-fits, thick-last, thick-step}
 use Rattle.layers.proofs.thickness.Statement.{statement}
 use Rattle.layers.proofs.thickness.Tie as tie

@@ -7,9 +7,9 @@ use lib.ListN.{length, take, getD}
 use lib.Seq.{length-take-le}
 use Rattle.grid.specs.Characters.{digitOf}
 use Rattle.grid.specs.Layers.{radices}
-use Rattle.layers.specs.Heights.{heightRead}
-use Rattle.space.specs.Weave.{placeTwo}
-use Rattle.space.specs.Space.{tenStrands}
+use Rattle.layers.specs.Heights.{heightAnswer}
+use Rattle.space.specs.inner.Weave.{placeTwo}
+use Rattle.space.specs.inner.Parts.{tenStrands}
 use Rattle.space.proofs.Tables.{given-length}
 use borrow.Author.Needs.{needs}
 use Rattle.space.proofs.height_of.Statement.{statement}
@@ -42,7 +42,7 @@ read-requires c κs =
 returns : tie.Need-returns
 returns c =
     let s = c .before .before .before .before in
-    c .read .ensures ∙ ap (λ (l : List ℕ). heightRead radices (s .args .level) (map digitOf (take (2 + s .args .level) l))) (c .before .before .height-part .ensures)
+    c .read .ensures ∙ ap (λ (l : List ℕ). heightAnswer radices (s .args .level) (map digitOf (take (2 + s .args .level) l))) (c .before .before .height-part .ensures)
 
 pub height-of-spec : {M : Type 1} → statement M
 height-of-spec =

@@ -1,6 +1,6 @@
 -- `space::joined` meets its contract. Assumes nothing.
 use mathlib.Core.Path.{refl, _∙_, subst}
-use Rattle.space.specs.Space.{Lying}
+use Rattle.space.specs.inner.Parts.{Lying}
 use borrow.Author.Needs.{needs}
 use Rattle.space.proofs.joined.Statement.{statement}
 use Rattle.space.proofs.joined.Tie as tie

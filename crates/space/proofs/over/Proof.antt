@@ -4,7 +4,7 @@ use mir.Facts.{toZ-ofZ}
 use Rattle.grid.specs.inner.Roads.{squareOf}
 use Rattle.grid.specs.Layers.{radices}
 use Rattle.grid.specs.Laying as laying
-use Rattle.layers.specs.Heights.{askedOf}
+use Rattle.layers.specs.Heights.{askedOf, layerAsked}
 use Rattle.layers.proofs.Sides.{asked-at}
 use Rattle.space.proofs.Writing.{layered-at, layered-out}
 use borrow.Author.Needs.{needs}
@@ -26,7 +26,7 @@ refuse-requires c κs = search needs
 returns : tie.Need-returns
 returns c =
     let s = c .before .before .before .before in
-    let e = sym (ap (askedOf radices) (toZ-ofZ (s .fits .layer))) ∙ sym (c .before .before .before .ask-layer .ensures) ∙ c .before .above .given .1 in (
+    let e = sym (ap (askedOf radices) (toZ-ofZ (s .fits .layer))) ∙ sym (c .before .before .before .ask-layer .ensures) ∙ ap layerAsked (c .before .above .given .1) in (
       layered-at (s .args .l) (squareOf (s .args .p)) (s .args .layer) e,
       record { level-low = s .pre .0; level-high = s .pre .1; wide = s .pre .2; high = s .pre .3; rise-in = asked-at radices (s .args .layer) e .1 },
     )
@@ -34,7 +34,7 @@ returns c =
 returns-2 : tie.Need-returns-2
 returns-2 c =
     let s = c .before .before .before .before in
-    let e = sym (ap (askedOf radices) (toZ-ofZ (s .fits .layer))) ∙ sym (c .before .before .before .ask-layer .ensures) ∙ c .before .enum-told .given .1 in
+    let e = sym (ap (askedOf radices) (toZ-ofZ (s .fits .layer))) ∙ sym (c .before .before .before .ask-layer .ensures) ∙ ap layerAsked (c .before .enum-told .given .1) in
     (ap laying.refuse (c .refuse .ensures) ∙ layered-out (s .args .l) (squareOf (s .args .p)) (s .args .layer) e, tt)
 
 pub over-spec : {M : Type 1} → statement M

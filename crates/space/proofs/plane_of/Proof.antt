@@ -7,8 +7,8 @@ use lib.ListN.{length, take, getD}
 use lib.Seq.{length-take-le}
 use Rattle.grid.specs.Splits.{splitAt}
 use Rattle.grid.specs.Plane.{cellOf}
-use Rattle.space.specs.Weave.{placeOne}
-use Rattle.space.specs.Space.{tenStrands}
+use Rattle.space.specs.inner.Weave.{placeOne}
+use Rattle.space.specs.inner.Parts.{tenStrands}
 use Rattle.space.proofs.Tables.{length-few, given-length}
 use borrow.Author.Needs.{needs}
 use Rattle.space.proofs.plane_of.Statement.{statement}

@@ -1,6 +1,5 @@
 -- `space::two` meets its contract. Assumes nothing.
 use mathlib.Core.Path.{refl}
-use native.Mathlib.Omega.{arith}
 use lib.ListN.{length-set}
 use borrow.Author.Needs.{needs}
 use borrow.Author.Tests.{lt-ltb, le-ltb}
@@ -14,7 +13,7 @@ shared-slice-read-line : tie.Need-shared-slice-read-line
 shared-slice-read-line c = search needs
 
 slice-write-line : tie.Need-slice-write-line
-slice-write-line c = let h = c .before .before .pre .1 (c .before .if1 .left) in omega arith
+slice-write-line c = c .before .before .pre .1 (c .before .if1 .left)
 
 add-line : tie.Need-add-line
 add-line c = search needs
@@ -22,11 +21,8 @@ add-line c = search needs
 shared-slice-read-line-2 : tie.Need-shared-slice-read-line-2
 shared-slice-read-line-2 c = search needs
 
-add-line-2 : tie.Need-add-line-2
-add-line-2 c = let h = c .before .before .before .pre .1 (c .before .before .if1 .left) in omega arith
-
 slice-write-line-2 : tie.Need-slice-write-line-2
-slice-write-line-2 c = let h = c .before .before .before .pre .1 (c .before .before .if1 .left) in simp length-set h
+slice-write-line-2 c = let h = c .before .before .before .pre .2 (c .before .before .if1 .left) in simp length-set h
 
 same-length : tie.Need-same-length
 same-length c = search needs
@@ -43,7 +39,6 @@ two-spec =
     slice-write-line
     add-line
     shared-slice-read-line-2
-    add-line-2
     slice-write-line-2
     same-length
     returns-2)

@@ -3,7 +3,8 @@ use mathlib.Core.Path.{_≡_, _∙_, ap}
 use mir.Facts.{toZ-ofZ}
 use Rattle.grid.specs.Laying.{Text, laid}
 use Rattle.grid.proofs.Laying.{laid-refused}
-use Rattle.space.specs.Space.{askedSpaceText, spaceText}
+use Rattle.space.specs.Space.{spaceText}
+use Rattle.space.specs.inner.Asking.{askedSpaceText}
 use Rattle.space.proofs.Writing.{fits-at, asked-space-at, asked-space-unmet}
 use borrow.Author.Needs.{needs}
 use Rattle.space.proofs.write.Statement.{statement}

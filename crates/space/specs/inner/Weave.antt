@@ -31,9 +31,9 @@ parts f [] w = []
 parts f (t ∷ ts) w = f t (take (both-of t) w) ++ parts f ts (drop (both-of t) w)
 
 -- where the digit p of such a part stands in what is woven: a level has `count` of them, and they stand at `place`
-unfoldable pub placeIn : (Strand → ℕ) → (Strand → ℕ → ℕ) → List Strand → ℕ → ℕ
-placeIn count place [] p = p
-placeIn count place (t ∷ ts) p = cond (ltb p (count t)) (place t p) (both-of t + placeIn count place ts (p - count t))
+unfoldable pub strandPlace : (Strand → ℕ) → (Strand → ℕ → ℕ) → List Strand → ℕ → ℕ
+strandPlace count place [] p = p
+strandPlace count place (t ∷ ts) p = cond (ltb p (count t)) (place t p) (both-of t + strandPlace count place ts (p - count t))
 
 -- the one, and the other, out of what was woven
 abbrev pub firsts : List Strand → List ℕ → List ℕ
@@ -45,11 +45,11 @@ seconds = parts (λ t. secondOf (t .lead) (t .one))
 
 -- where a digit of the one, or of the other, stands in what is woven
 abbrev pub placeOne : List Strand → ℕ → ℕ
-placeOne = placeIn (λ t. t .one) (λ t. firstPlace (t .lead))
+placeOne = strandPlace (λ t. t .one) (λ t. firstPlace (t .lead))
 
 -- where a digit of the other stands
 abbrev pub placeTwo : List Strand → ℕ → ℕ
-placeTwo = placeIn (λ t. t .two) (λ t. secondPlace (t .lead) (t .one))
+placeTwo = strandPlace (λ t. t .two) (λ t. secondPlace (t .lead) (t .one))
 
 -- both were read; or the first bad digit of either, at its place in what was woven
 abbrev pub together : {A B : Type 0} → List Strand → Read A → Read B → Read (A × B)

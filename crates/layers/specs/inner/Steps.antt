@@ -1,16 +1,17 @@
--- What each level of the height has, over any list of radices: its thickness, its character, and where a reader stands after it.
+-- What each level of the height has, over any list of radices: its thickness, its character, and where a reader stands after it; a layer's height digits.
 -- Assumes nothing.
 use mathlib.Core.Path.{_≡_}
 use mathlib.Core.Bool.{Bool, true, false, cond, _&&_}
 use mathlib.Core.List.{List, [], _∷_, map}
 use Prim.Native.Nat.{ℕ, _+_, _*_, _/_, _%_, _≤_, _<_}
 use lib.Dec.{ltb, leb, eqb}
+use lib.IntN.{ℤ}
 use lib.ListN.{length, getD, take, drop}
 use Rattle.grid.specs.Characters.{charOf, digitOf}
-use Rattle.grid.specs.Tree.{Read, next, follow}
-use Rattle.grid.specs.Layers.{product, Stack, allChild, layers}
+use Rattle.grid.specs.Tree.{Read, ok, bad, next, code, follow}
+use Rattle.grid.specs.Layers.{product, Stack, all, part, allChild, layers, floorOf}
 use Rattle.layers.specs.declared.Height.{Height}
-use Rattle.layers.specs.Heights.{heightLevels, heightRead, heightOf}
+use Rattle.layers.specs.Heights.{heightLevels, heightRead}
 
 -- each radix after the first is some, and its digits are code characters
 abbrev pub fairLater : List ℕ → Bool
@@ -32,8 +33,16 @@ thicknessAt rs k = product (drop k rs)
 
 -- ---- writing
 
+-- the layer on a side of the ground with a rise
+abbrev pub layerOf : ℕ → Bool → ℕ → ℤ
+layerOf top above n = floorOf top (part above n 1)
+
+-- the height digits of a code of level l for a layer
+unfoldable pub heightDigits : List ℕ → ℕ → ℤ → List ℕ
+heightDigits rs l z = code (layers (product rs)) (take l (heightLevels rs)) all z
+
 -- a level, a rise, and a line with room for the height characters
-pub record Writable (rs : List ℕ) (level rise : ℕ) (line : List ℕ) : Type 0 where
+pub record HeightWritable (rs : List ℕ) (level rise : ℕ) (line : List ℕ) : Type 0 where
   pub some-level : 1 ≤ level
   pub ten-levels : level ≤ 10
   pub rise-in : rise < product rs
@@ -44,10 +53,14 @@ unfoldable pub digitAt : List ℕ → ℕ → ℕ → ℕ
 digitAt rs k n = n / thicknessAt rs (k + 1) % getD rs k 0
 
 -- its character in a code of a level; none where the code ends before it
-unfoldable pub charsAt : List ℕ → ℕ → ℕ → ℕ → List ℕ
-charsAt rs level k n = cond (ltb k level) (charOf (digitAt rs k n) ∷ []) []
+unfoldable pub heightCharsAt : List ℕ → ℕ → ℕ → ℕ → List ℕ
+heightCharsAt rs level k n = cond (ltb k level) (charOf (digitAt rs k n) ∷ []) []
 
 -- ---- reading
+
+-- what was read so far, by the reader's cursor
+abbrev pub heightOf : Height → Read Stack
+heightOf h = cond (h .good) (ok (part (h .above) (h .low) (h .thick))) (bad (h .place))
 
 -- a level, and as many height characters as a code of it has
 pub record Readable (level n : ℕ) : Type 0 where
@@ -61,17 +74,17 @@ pub record BadAt (p : ℕ) (h : Height) : Type 0 where
   pub place : h .place ≡ p
 
 -- what the sign and the two decimal digits of level 1 lead to
-pub record First (rs : List ℕ) (s a b : ℕ) (h : Height) : Type 0 where
+pub record HeightFirst (rs : List ℕ) (s a b : ℕ) (h : Height) : Type 0 where
   pub read : heightOf h ≡ allChild (product rs) (getD rs 0 0) (s ∷ a ∷ b ∷ [])
   pub thick : h .good ≡ true → h .thick ≡ thicknessAt rs 1
   pub inside : h .good ≡ true → h .low + h .thick ≤ product rs
 
 -- what the characters w after those of k levels lead to, from the layers that these led to
-abbrev pub restOf : List ℕ → ℕ → ℕ → List ℕ → Stack → Read Stack
-restOf rs level k w n = follow (layers (product rs)) (drop k (take level (heightLevels rs))) n (drop (k + 2) (map digitOf w))
+abbrev pub heightRest : List ℕ → ℕ → ℕ → List ℕ → Stack → Read Stack
+heightRest rs level k w n = follow (layers (product rs)) (drop k (take level (heightLevels rs))) n (drop (k + 2) (map digitOf w))
 
 -- a reader after k levels of the characters w: going on from what it found, the whole is found
 pub record Upto (rs : List ℕ) (level k : ℕ) (w : List ℕ) (h : Height) : Type 0 where
-  pub whole : heightRead rs level (map digitOf w) ≡ next (k + 2) (heightOf h) (restOf rs level k w)
+  pub whole : heightRead rs level (map digitOf w) ≡ next (k + 2) (heightOf h) (heightRest rs level k w)
   pub thick : h .good ≡ true → k ≤ level → h .thick ≡ thicknessAt rs k
   pub inside : h .good ≡ true → h .low + h .thick ≤ product rs

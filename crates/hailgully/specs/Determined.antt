@@ -1,0 +1,7 @@
+-- What it is that a contract determines its results.
+-- Assumes nothing.
+use mathlib.Core.Path.{_≡_}
+
+-- two results that one contract allows are equal; where a line is lent, the result is the answer and every byte of the line
+abbrev pub Determined : {A : Type 0} → (A → Type 0) → Type 0
+Determined {A} Allowed = (a b : A) → Allowed a → Allowed b → a ≡ b

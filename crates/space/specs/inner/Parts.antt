@@ -1,0 +1,71 @@
+-- The two parts of a space code, its plane characters and its height characters: where each stands, and what both readers answer together.
+-- Assumes nothing.
+use mathlib.Core.Bool.{true, false, cond}
+use mathlib.Core.List.{List, [], _∷_, map}
+use Prim.Native.Nat.{ℕ, zero, suc, _<_, min}
+use lib.Dec.{ltb}
+use lib.ListN.{getD}
+use Rattle.grid.specs.declared.Split.{Split}
+use Rattle.grid.specs.declared.SpaceCell.{SpaceCell}
+use Rattle.grid.specs.declared.Cell.{Cell}
+use Rattle.grid.specs.Splits.{splits}
+use Rattle.grid.specs.Codes.{placeIn}
+use Rattle.grid.specs.Answers.{Answer, accepted, refused, wrongCharacter}
+use Rattle.grid.specs.Layers.{radices, product, Stack, floorOf, thicknessOf}
+use Rattle.grid.specs.Space.{spaceLengths}
+use Rattle.plane.specs.inner.Lengths.{orZero}
+use Rattle.layers.specs.declared.LayersRead.{LayersRead}
+use Rattle.layers.specs.declared.LayersRead.the-variants as layers
+use Rattle.space.specs.inner.Weave.{Strand, placeOne, placeTwo}
+
+-- the level of the space codes that are n bytes long; 0 where there is none
+unfoldable pub spaceLevelOf : ℕ → ℕ
+spaceLevelOf n = orZero (placeIn n 1 spaceLengths)
+
+-- a level after the first: its plane characters, then one height character
+abbrev pub laterStrands : List Split → List Strand
+laterStrands [] = []
+laterStrands (t ∷ ts) = record { lead = false; one = t .characters; two = 1 } ∷ laterStrands ts
+
+-- the first level: N or S and the sign in front, then the zone and the row, then two more height characters
+abbrev pub strandsOf : List Split → List Strand
+strandsOf [] = []
+strandsOf (t ∷ ts) = record { lead = true; one = t .characters; two = 3 } ∷ laterStrands ts
+
+-- the strands of the ten levels
+abbrev pub tenStrands : List Strand
+tenStrands = strandsOf splits
+
+-- the numbers below n, from k on
+abbrev pub countFrom : ℕ → ℕ → List ℕ
+countFrom k zero = []
+countFrom k (suc n) = k ∷ countFrom (suc k) n
+
+-- the plane characters, and the height characters, of a space code of level 10; past a shorter code's end, 0
+abbrev pub planePart : List ℕ → List ℕ
+planePart w = map (λ p. getD w (placeOne tenStrands p) 0) (countFrom 0 20)
+
+-- the height characters
+abbrev pub heightPart : List ℕ → List ℕ
+heightPart w = map (λ p. getD w (placeTwo tenStrands p) 0) (countFrom 0 12)
+
+-- where a plane character, or a height character, stands in a space code; 0 for a place that there is not
+unfoldable pub planePlace : ℕ → ℕ
+planePlace p = cond (ltb p 20) (placeOne tenStrands p) 0
+
+-- where a height character stands
+unfoldable pub heightPlace : ℕ → ℕ
+heightPlace p = cond (ltb p 12) (placeTwo tenStrands p) 0
+
+-- the answers of the plane reader and of the height reader together: the cell with its layers, or the first bad character of either
+abbrev pub joinedAnswer : Answer Cell → Answer Stack → Answer SpaceCell
+joinedAnswer (accepted c) (accepted m) =
+    accepted (record { cell = c; floor = floorOf (product radices) m; thickness = thicknessOf (product radices) m })
+joinedAnswer (accepted c) (refused q) = refused (wrongCharacter (heightPlace (q .place)))
+joinedAnswer (refused r) (accepted m) = refused (wrongCharacter (planePlace (r .place)))
+joinedAnswer (refused r) (refused q) = refused (wrongCharacter (min (planePlace (r .place)) (heightPlace (q .place))))
+
+-- layers that were read lie in their range
+abbrev pub Lying : LayersRead → Type 0
+Lying (layers.Found above low thick) = low < product radices
+Lying (layers.Bad p) = Unit {0}
