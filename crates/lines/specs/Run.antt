@@ -1,6 +1,8 @@
 -- A run of the program, whatever pieces its input comes in and however much the output takes at a time.
 -- Assumes nothing.
+use mathlib.Core.Bool.{Bool, true}
 use mathlib.Core.List.{List, [], _++_}
+use mathlib.Core.Path.{_≡_}
 use Prim.Native.Nat.{ℕ}
 use lib.ListN.{take, drop}
 use Rattle.lines.specs.Lines.{linesText, lastLine}
@@ -21,3 +23,17 @@ pub data Run : Work → List ℕ → List ℕ → Type 0 where
   more : {w : Work} (piece rest : List ℕ) {output : List ℕ}
       → Run (emptied (fill w piece)) (drop (fill w piece .marked .next) piece ++ rest) output
       → Run w (piece ++ rest) (take (fill w piece .marked .at) (fill w piece .out) ++ output)
+
+-- from a state, part after part of a block: each is filled in as far as there is room, and what was filled is handed to the output;
+-- the state that this leads to, what is then left of the block, and all that was handed over
+pub data Printing (w : Work) (block : List ℕ) : Work → List ℕ → List ℕ → Type 0 where
+  none : Printing w block w block []
+  part : {v : Work} {left output : List ℕ} → Printing w block v left output
+      → Printing w block (emptied (fill v left)) (drop (fill v left .marked .next) left) (output ++ take (fill v left .marked .at) (fill v left .out))
+
+-- a block was printed so, and nothing of it is left where all went well
+pub record Through (w : Work) (block : List ℕ) (v : Work) (well : Bool) : Type 0 where
+  pub left : List ℕ
+  pub output : List ℕ
+  pub printing : Printing w block v left output
+  pub whole : well ≡ true → left ≡ []

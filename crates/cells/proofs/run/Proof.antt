@@ -2,7 +2,7 @@
 use mathlib.Core.Path.{_≡_, refl, _∙_}
 use native.Mathlib.Omega.{arith}
 use lib.ListN.{length}
-use Rattle.lines.specs.Filling.{Lent}
+use Rattle.lines.specs.inner.Buffers.{Lent}
 use Rattle.cells.proofs.run.Statement.{statement}
 use Rattle.cells.proofs.run.Tie as tie
 
@@ -23,7 +23,7 @@ next c =
     let l = c .turn .kept .1 .0 in
     let b = c .turn .kept .1 .1 .0 in
     let o = c .turn .kept .1 .1 .1 .0 in
-    (record { few = c .turn .ensures; long = omega (arith, l, i .0 .long); room = omega (arith, o, i .0 .room) }, l ∙ i .1, b ∙ i .2, o ∙ i .3)
+    (record { few = c .turn .ensures .0; long = omega (arith, l, i .0 .long); room = omega (arith, o, i .0 .room) }, l ∙ i .1, b ∙ i .2, o ∙ i .3)
 
 loop-holds : tie.Need-loop-holds Inv-loop μ-loop
 loop-holds c = (c .before .before .before .pre, refl, refl, refl)
