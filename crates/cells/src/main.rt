@@ -3,12 +3,12 @@
 // What could not be read or written it says on standard error; and it has no exit status, so its last word is a byte on descriptor 3 (`VERDICT`).
 
 ghost use mathlib.Core.Path.{_≡_};
-ghost use mathlib.Core.Bool.{true};
+ghost use mathlib.Core.Bool.{true, false};
 ghost use Prim.Native.Nat.{_≤_};
 ghost use lib.ListN.{length, take};
+ghost use lib.Seq.{sets};
 ghost use Rattle.lines.specs.Filling.{KEPT, marks, work, start, fill};
-ghost use Rattle.lines.specs.Lines.{lastLine, linesText};
-ghost use Rattle.lines.specs.Run.{Through};
+ghost use Rattle.lines.specs.Run.{finishText, Through, Ran};
 ghost use Rattle.lines.specs.inner.Buffers.{Laid, Lent};
 use libc::STDIN_FILENO;
 use libc::STDOUT_FILENO;
@@ -96,7 +96,7 @@ fn print_block(block: &[u8], held: usize, line: &mut [u8], out: &mut [u8]) -> Us
 // The answer of the last line, where no line feed ended it.
 fn print_last(held: usize, line: &[u8], out: &mut [u8]) -> Handed
     requires { ⌜ Lent held (now line) (now out) ⌝ }
-    ensures { λ r. ⌜ Laid (now (out .entry)) 0 (linesText (lastLine (take held (now (line .entry))))) (r .bytes) (now (out .exit)) ⌝ }
+    ensures { λ r. ⌜ Laid (now (out .entry)) 0 (finishText (start held (now (line .entry)) (now (out .entry)))) (r .bytes) (now (out .exit)) ⌝ }
 {
     let last = lines::finish(line, held, out);
     hand_over(&out[..last])
@@ -115,6 +115,7 @@ fn turn(held: usize, line: &mut [u8], block: &mut [u8], out: &mut [u8]) -> Outco
     requires { ⌜ Lent held (now line) (now out) ⌝ }
     ensures { λ r. ⌜ r .held ≤ KEPT ⌝ }
     ensures { λ r. ⌜ (r .more ≡ true → Through (start held (now (line .entry)) (now (out .entry))) (take (r .got) (now (block .exit))) (start (r .held) (now (line .exit)) (now (out .exit))) true) ⌝ }
+    ensures { λ r. ⌜ (r .more ≡ false → r .well ≡ true → now (out .exit) ≡ sets (now (out .entry)) 0 (finishText (start held (now (line .entry)) (now (out .entry))))) ⌝ }
 {
     let read = libc::read(STDIN_FILENO, block);
     if read < 0 {
@@ -149,6 +150,7 @@ fn turn(held: usize, line: &mut [u8], block: &mut [u8], out: &mut [u8]) -> Outco
 // input does: so the turns are counted down from a number that no run uses up.
 fn run(line: &mut [u8], block: &mut [u8], out: &mut [u8]) -> bool
     requires { ⌜ Lent 0 (now line) (now out) ⌝ }
+    ensures { λ r. ⌜ (r ≡ true → Ran (start 0 (now (line .entry)) (now (out .entry))) (now (out .exit))) ⌝ }
 {
     let mut held = 0;
     let mut turns = u64::MAX;

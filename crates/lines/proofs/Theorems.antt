@@ -2,7 +2,7 @@
 -- Assumes nothing.
 use mathlib.Core.Path.{_≡_, refl, sym, ap, subst⁻¹, _∙_}
 use mathlib.Core.Bool.{Bool, true, false, cond}
-use mathlib.Core.List.{List, [], _∷_, _++_, append-assoc}
+use mathlib.Core.List.{List, [], _∷_, _++_, append-nil, append-assoc}
 use Prim.Native.Nat.{ℕ, suc, _+_, _-_, _≤_}
 use native.Mathlib.Omega.{arith}
 use native.Mathlib.Numerals.{add-one}
@@ -16,7 +16,7 @@ use Rattle.lines.specs.declared.Marks.{Marks}
 use Rattle.lines.specs.Text.{FEED, answerText}
 use Rattle.lines.specs.Lines.{lastLine, linesAfter, lineText, linesText, outputOf}
 use Rattle.lines.specs.Filling.{KEPT, ROOM, Work, work, start, lineIn, answered, longer, passed, onByte, fill}
-use Rattle.lines.specs.Run.{Run, ended, more, emptied, Printing, none, part, Through}
+use Rattle.lines.specs.Run.{Run, ended, more, emptied, finishText, Printing, none, part, Through, Turns, begun, turn, Ran}
 use Rattle.lines.specs.inner.Buffers.{Laid, MarksWithin}
 use Rattle.lines.proofs.Filling.{answer-length, stays, fill-more, filled}
 use Rattle.lines.proofs.Long.{long-refused}
@@ -158,6 +158,19 @@ printing-runs {w} {block = block} (part {v} {left} {output} p) rest {after} run 
 pub through-runs : {w v : Work} {block : List ℕ} (t : Through w block v true) (rest : List ℕ) {after : List ℕ}
     → Run v rest after → Run w (block ++ rest) (t .output ++ after)
 through-runs {v = v} t rest {after} run = printing-runs (t .printing) rest (subst⁻¹ (λ (l : List ℕ). Run v (l ++ rest) after) (t .whole refl) run)
+
+-- some turns, and a run from there on
+turns-run : {w v : Work} {input output : List ℕ} → Turns w v input output
+    → (rest : List ℕ) {after : List ℕ} → Run v rest after → Run w (input ++ rest) (output ++ after)
+turns-run begun rest run = run
+turns-run {w} (turn {block = block} {input} {output} p t) rest {after} run =
+    subst⁻¹ (λ (i : List ℕ). Run w i ((output ++ t .output) ++ after)) (append-assoc input block rest)
+    (subst⁻¹ (λ (o : List ℕ). Run w (input ++ (block ++ rest)) o) (append-assoc output (t .output) after)
+    (turns-run p (block ++ rest) (through-runs t rest run)))
+
+-- what the program has handed over when it says that all was read and written: just what document 01 says of the input
+pub ran-prints : {line out after : List ℕ} → KEPT ≤ length line → (r : Ran (start 0 line out) after) → r .output ++ finishText (r .last) ≡ outputOf (r .input)
+ran-prints {line} {out} h r = prints line out h (turns-run (r .turns) [] ended) ∙ ap outputOf (append-nil (r .input))
 
 -- ---- two results that one contract allows are equal
 

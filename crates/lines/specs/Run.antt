@@ -5,6 +5,7 @@ use mathlib.Core.List.{List, [], _++_}
 use mathlib.Core.Path.{_≡_}
 use Prim.Native.Nat.{ℕ}
 use lib.ListN.{take, drop}
+use lib.Seq.{sets}
 use Rattle.lines.specs.Lines.{linesText, lastLine}
 use Rattle.lines.specs.Filling.{Work, start, lineIn, fill}
 
@@ -37,3 +38,17 @@ pub record Through (w : Work) (block : List ℕ) (v : Work) (well : Bool) : Type
   pub output : List ℕ
   pub printing : Printing w block v left output
   pub whole : well ≡ true → left ≡ []
+
+-- turn after turn of the program: each prints a block whole; the state that this leads to, the input so far, and all that was handed over
+pub data Turns (w : Work) : Work → List ℕ → List ℕ → Type 0 where
+  begun : Turns w w [] []
+  turn : {v u : Work} {block input output : List ℕ} → Turns w v input output
+      → (t : Through v block u true) → Turns w u (input ++ block) (output ++ t .output)
+
+-- all was read and printed: some turns, and then the answer of the last line, which stands in the output
+pub record Ran (w : Work) (out : List ℕ) : Type 0 where
+  pub last : Work
+  pub input : List ℕ
+  pub output : List ℕ
+  pub turns : Turns w last input output
+  pub answered : out ≡ sets (last .out) 0 (finishText last)

@@ -19,7 +19,7 @@ same-length : tie.Need-same-length
 same-length c = search needs
 
 returns : tie.Need-returns
-returns c = (omega arith, λ e. not-both e refl)
+returns c = (omega arith, (λ e. not-both e refl, λ e f. not-both f refl))
 
 count-requires : tie.Need-count-requires
 count-requires c κs = search needs
@@ -37,7 +37,7 @@ same-length-4 : tie.Need-same-length-4
 same-length-4 c = search needs
 
 returns-2 : tie.Need-returns-2
-returns-2 c = (omega arith, λ e. not-both e refl)
+returns-2 c = (omega arith, (λ e. not-both e refl, λ e f. c .before .before .print-last .ensures .stands))
 
 slice-reshare-prefix-print-block : tie.Need-slice-reshare-prefix-print-block
 slice-reshare-prefix-print-block c = search needs
@@ -60,7 +60,7 @@ same-length-7 c = search needs
 returns-3 : tie.Need-returns-3
 returns-3 c =
     let p = c .before .before .before .before .print-block in
-    (p .ensures .0, λ e. went-through (p .ensures .1) e)
+    (p .ensures .0, (λ e. went-through (p .ensures .1) e, λ e f. not-both f e))
 
 pub turn-spec : {M : Type 1} → statement M
 turn-spec =
