@@ -14,7 +14,7 @@ cd "$scratch" || exit 1
 case_of() {
   local name=$1 status=$2 output=$3 error=$4 found said
   cases=$((cases + 1))
-  run=$root/run build=$root/build check=$root/check bash -c "$5" >out 2>err
+  run=$root/run build=$root/build check=$root/check timeout 60 bash -c "$5" >out 2>err
   found=$?
   said=$(cat err)
   # shellcheck disable=SC2053

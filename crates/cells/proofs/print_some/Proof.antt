@@ -1,5 +1,5 @@
 -- `cells::print_some` meets its contract. Assumes nothing.
-use mathlib.Core.Path.{_≡_, sym}
+use mathlib.Core.Path.{sym}
 use borrow.Author.Needs.{needs}
 use Prim.Native.Nat.{_≤_}
 use lib.ListN.{length}
@@ -17,10 +17,10 @@ fill-requires : tie.Need-fill-requires
 fill-requires c κs = search needs
 
 slice-reshare-prefix-hand-over : tie.Need-slice-reshare-prefix-hand-over
-slice-reshare-prefix-hand-over c = inside (c .before .before .before .before)
+slice-reshare-prefix-hand-over c = let i = inside (c .before .before .before .before) in search (needs, i)
 
 slice-aggregate-hand-over : tie.Need-slice-aggregate-hand-over
-slice-aggregate-hand-over c = sym (length-take-le _ _ (inside (c .before .before .before .before .before)))
+slice-aggregate-hand-over c = let i = inside (c .before .before .before .before .before) in sym (length-take-le _ _ (search (needs, i)))
 
 hand-over-requires : tie.Need-hand-over-requires
 hand-over-requires c κs = search needs
