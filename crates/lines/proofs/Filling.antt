@@ -14,9 +14,10 @@ use Rattle.grid.specs.declared.Cell.{Cell}
 use Rattle.grid.specs.Answers.{Answer, accepted, refused}
 use Rattle.grid.specs.Plane.{cellOf}
 use Rattle.lines.specs.declared.Marks.{Marks}
-use Rattle.lines.specs.Text.{Laid, FEED, numberText, cornerText, twoText, answerText}
+use Rattle.lines.specs.Text.{FEED, numberText, cornerText, twoText, answerText}
 use Rattle.lines.specs.Lines.{lineText, lastLine, linesText}
-use Rattle.lines.specs.Filling.{KEPT, ROOM, marks, Work, work, start, lineIn, answered, longer, passed, onByte, fill, Ready, Lent}
+use Rattle.lines.specs.Filling.{KEPT, ROOM, marks, Work, work, start, lineIn, answered, longer, passed, onByte, fill}
+use Rattle.lines.specs.inner.Buffers.{Laid, MarksWithin, Lent}
 use Rattle.lines.proofs.Laying.{laid-length, number-length, corner-length}
 
 -- ---- the room that an answer takes
@@ -57,12 +58,12 @@ module _ (b : ℕ) (m : Marks) (line out : List ℕ) where
 
 -- a byte leaves the buffers as long as they were and ready for the next
 pub record Stays (w v : Work) : Type 0 where
-  pub ready : Ready (v .marked) (v .line) (v .out)
+  pub ready : MarksWithin (v .marked) (v .line) (v .out)
   pub same-line : length (v .line) ≡ length (w .line)
   pub same-out : length (v .out) ≡ length (w .out)
   pub one-on : v .marked .next ≡ w .marked .next + 1
 
-pub stays : (b : ℕ) (w : Work) → Ready (w .marked) (w .line) (w .out) → w .marked .at + ROOM ≤ length (w .out) → Stays w (onByte b w)
+pub stays : (b : ℕ) (w : Work) → MarksWithin (w .marked) (w .line) (w .out) → w .marked .at + ROOM ≤ length (w .out) → Stays w (onByte b w)
 unfolding onByte
 stays b w r h = byte (eqb b FEED)
   where
@@ -110,19 +111,19 @@ module _ (block : List ℕ) (m : Marks) (line out : List ℕ) where
 
 -- how a block of n bytes leaves the work
 pub record Filled (w : Work) (n : ℕ) (v : Work) : Type 0 where
-  pub ready : Ready (v .marked) (v .line) (v .out)
+  pub ready : MarksWithin (v .marked) (v .line) (v .out)
   pub same-line : length (v .line) ≡ length (w .line)
   pub same-out : length (v .out) ≡ length (w .out)
   pub forth : w .marked .next ≤ v .marked .next
   pub not-past : v .marked .next ≤ w .marked .next + n
 
-pub filled : (w : Work) (bs : List ℕ) → Ready (w .marked) (w .line) (w .out) → Filled w (length bs) (fill w bs)
+pub filled : (w : Work) (bs : List ℕ) → MarksWithin (w .marked) (w .line) (w .out) → Filled w (length bs) (fill w bs)
 unfolding fill
 filled w [] r = record { ready = r; same-line = refl; same-out = refl; forth = omega arith; not-past = omega arith }
 filled w (b ∷ bs) r = by (leb (w .marked .at + ROOM) (length (w .out))) refl (λ k. filled (onByte b w) bs k)
   where
     by : (q : Bool) → leb (w .marked .at + ROOM) (length (w .out)) ≡ q
-        → (Ready (onByte b w .marked) (onByte b w .line) (onByte b w .out) → Filled (onByte b w) (length bs) (fill (onByte b w) bs))
+        → (MarksWithin (onByte b w .marked) (onByte b w .line) (onByte b w .out) → Filled (onByte b w) (length bs) (fill (onByte b w) bs))
         → Filled w (suc (length bs)) (cond q (fill (onByte b w) bs) w)
     by true e f =
         let s = stays b w r (leb-true _ _ e) in
@@ -138,12 +139,12 @@ filled w (b ∷ bs) r = by (leb (w .marked .at + ROOM) (length (w .out))) refl (
 
 -- where a block has come to: what is left of it gives what the whole of it was to give
 pub record Going (block : List ℕ) (held : ℕ) (line₀ out₀ : List ℕ) (m : Marks) (line out : List ℕ) : Type 0 where
-  pub ready : Ready m line out
+  pub ready : MarksWithin m line out
   pub same-line : length line ≡ length line₀
   pub same-out : length out ≡ length out₀
   pub rest : fill (work m line out) (drop (m .next) block) ≡ fill (start held line₀ out₀) block
 
-pub ready-lent : {held : ℕ} {line out : List ℕ} → Lent held line out → Ready (marks 0 held 0) line out
+pub ready-lent : {held : ℕ} {line out : List ℕ} → Lent held line out → MarksWithin (marks 0 held 0) line out
 ready-lent l = record { few = l .few; long = l .long; inside = omega arith }
 
 pub goes-on : {block : List ℕ} {held : ℕ} {m n : Marks} {line₀ out₀ line out line₁ out₁ : List ℕ} → Going block held line₀ out₀ m line out
@@ -160,21 +161,21 @@ goes-on {block} {m = m} {n} {line = line} {out} {line₁} {out₁} g h r e =
       s .one-on,
     )
 
--- a call of `fill` uses up at least one byte of a block, and no more than there are
-pub record Some (block : List ℕ) (n : Marks) (line out : List ℕ) : Type 0 where
-  pub used : 0 < n .next
-  pub within : n .next ≤ length block
-  pub ready : Ready n line out
+-- how a call of `fill` leaves the buffers that it was lent
+pub lent-filled : (block : List ℕ) {held : ℕ} {line out : List ℕ} → Lent held line out
+    → {n : Marks} {line₁ out₁ : List ℕ} → work n line₁ out₁ ≡ fill (start held line out) block → Filled (start held line out) (length block) (work n line₁ out₁)
+lent-filled block {held} {line} {out} l e = rw e (filled (start held line out) block (ready-lent l))
 
+-- it uses up at least one byte of a block
 pub uses-some : (block : List ℕ) {held : ℕ} {line out : List ℕ} → Lent held line out → 0 < length block
-    → {n : Marks} {line₁ out₁ : List ℕ} → work n line₁ out₁ ≡ fill (start held line out) block → Some block n line₁ out₁
+    → {n : Marks} {line₁ out₁ : List ℕ} → work n line₁ out₁ ≡ fill (start held line out) block → 0 < n .next
 uses-some [] l h e = absurd (omega arith)
 uses-some (b ∷ more) {held} {line} {out} l h {n} {line₁} {out₁} e =
     let w = start held line out in
     let k : 0 + ROOM ≤ length out = omega (arith, l .room) in
     let s = stays b w (ready-lent l) k in
     let f : Filled (onByte b w) (length more) (work n line₁ out₁) = rw (e, fill-more b more w k) (filled (onByte b w) more (s .ready)) in
-    record { used = omega (arith, f .forth, s .one-on); within = omega (arith, f .not-past, s .one-on); ready = f .ready }
+    omega (arith, f .forth, s .one-on)
 
 -- ---- the input's end
 

@@ -22,7 +22,8 @@ use Rattle.grid.specs.declared.PlaneRead.the-variants.{Found, Refused}
 use Rattle.grid.specs.Answers.{planeRead}
 use Rattle.grid.specs.Units.{side, index}
 use Rattle.grid.proofs.Cut.{clash}
-use Rattle.lines.specs.Text.{MINUS, Laid, decimalIn, decimalOf, numberText, signedText, cornerText, cellText, refusalText, answerText}
+use Rattle.lines.specs.Text.{MINUS, decimalIn, decimalOf, numberText, signedText, cornerText, cellText, refusalText, answerText}
+use Rattle.lines.specs.inner.Buffers.{Laid}
 
 -- ---- laying down
 

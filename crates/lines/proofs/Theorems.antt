@@ -2,7 +2,7 @@
 -- Assumes nothing.
 use mathlib.Core.Path.{_≡_, refl, sym, ap, subst⁻¹, _∙_}
 use mathlib.Core.Bool.{Bool, true, false, cond}
-use mathlib.Core.List.{List, [], _∷_, _++_, append-assoc}
+use mathlib.Core.List.{List, [], _∷_, _++_, append-nil, append-assoc}
 use Prim.Native.Nat.{ℕ, suc, _+_, _-_, _≤_}
 use native.Mathlib.Omega.{arith}
 use native.Mathlib.Numerals.{add-one}
@@ -13,10 +13,11 @@ use lib.Seq.{sets, sets-eq, take-at, take-suc-set, length-take-le}
 use borrow.Author.Tests.{ltb-true, ltb-false, leb-true}
 use Rattle.grid.specs.Plane.{cellOf}
 use Rattle.lines.specs.declared.Marks.{Marks}
-use Rattle.lines.specs.Text.{Laid, FEED, answerText}
+use Rattle.lines.specs.Text.{FEED, answerText}
 use Rattle.lines.specs.Lines.{lastLine, linesAfter, lineText, linesText, outputOf}
-use Rattle.lines.specs.Filling.{KEPT, ROOM, Work, work, start, lineIn, answered, longer, passed, onByte, fill, Ready}
-use Rattle.lines.specs.Run.{Run, ended, more, emptied}
+use Rattle.lines.specs.Filling.{KEPT, ROOM, Work, work, start, lineIn, answered, longer, passed, onByte, fill}
+use Rattle.lines.specs.Run.{Run, ended, more, emptied, finishText, Printing, none, part, Through, Turns, begun, turn, Ran}
+use Rattle.lines.specs.inner.Buffers.{Laid, MarksWithin}
 use Rattle.lines.proofs.Filling.{answer-length, stays, fill-more, filled}
 use Rattle.lines.proofs.Long.{long-refused}
 
@@ -57,7 +58,7 @@ take-sets l at v h =
     ap (take (at + length v)) (sets-eq v l at h)
     ∙ take-at (take at l ++ v) (drop (at + length v) l) (at + length v) (rw (length-append, length-take-le at l (omega arith)))
 
-byte-printed : (b : ℕ) (w : Work) (i : List ℕ) → Ready (w .marked) (w .line) (w .out) → w .marked .at + ROOM ≤ length (w .out)
+byte-printed : (b : ℕ) (w : Work) (i : List ℕ) → MarksWithin (w .marked) (w .line) (w .out) → w .marked .at + ROOM ≤ length (w .out)
     → printed (onByte b w) i ≡ printed w (b ∷ i)
 unfolding onByte linesAfter linesText
 byte-printed b w i r h = byte (eqb b FEED)
@@ -79,7 +80,7 @@ byte-printed b w i r h = byte (eqb b FEED)
 
 -- ---- a block
 
-fill-printed : (w : Work) (piece rest : List ℕ) → Ready (w .marked) (w .line) (w .out)
+fill-printed : (w : Work) (piece rest : List ℕ) → MarksWithin (w .marked) (w .line) (w .out)
     → printed (fill w piece) (drop (fill w piece .marked .next - w .marked .next) piece ++ rest) ≡ printed w (piece ++ rest)
 unfolding fill
 fill-printed w [] rest r = rw sub-self
@@ -92,7 +93,7 @@ fill-printed w (b ∷ bs) rest r = by (leb (w .marked .at + ROOM) (length (w .ou
         rw e
 
     by : (q : Bool) → leb (w .marked .at + ROOM) (length (w .out)) ≡ q
-        → (Ready (onByte b w .marked) (onByte b w .line) (onByte b w .out)
+        → (MarksWithin (onByte b w .marked) (onByte b w .line) (onByte b w .out)
         → printed (fill (onByte b w) bs) (drop (fill (onByte b w) bs .marked .next - onByte b w .marked .next) bs ++ rest) ≡ printed (onByte b w) (bs ++ rest))
         → printed (cond q (fill (onByte b w) bs) w) (drop (cond q (fill (onByte b w) bs) w .marked .next - w .marked .next) (b ∷ bs) ++ rest) ≡ printed w (b ∷ (bs ++ rest))
     by true e f =
@@ -105,7 +106,7 @@ fill-printed w (b ∷ bs) rest r = by (leb (w .marked .at + ROOM) (length (w .ou
 
 -- ---- a run
 
-run-prints : {w : Work} {input output : List ℕ} → w .marked .next ≡ 0 → w .marked .at ≡ 0 → Ready (w .marked) (w .line) (w .out)
+run-prints : {w : Work} {input output : List ℕ} → w .marked .next ≡ 0 → w .marked .at ≡ 0 → MarksWithin (w .marked) (w .line) (w .out)
     → Run w input output → output ≡ after (lineIn w) input
 unfolding linesAfter
 run-prints n a r ended = refl
@@ -127,7 +128,7 @@ one-byte : (b : ℕ) (w : Work) → w .marked .at + ROOM ≤ length (w .out) →
 unfolding fill
 one-byte b w h = fill-more b [] w h
 
-run-of : (input : List ℕ) (w : Work) → w .marked .next ≡ 0 → w .marked .at ≡ 0 → Ready (w .marked) (w .line) (w .out) → ROOM ≤ length (w .out)
+run-of : (input : List ℕ) (w : Work) → w .marked .next ≡ 0 → w .marked .at ≡ 0 → MarksWithin (w .marked) (w .line) (w .out) → ROOM ≤ length (w .out)
     → (output : List ℕ) × Run w input output
 run-of [] w n a r h = (_, ended)
 run-of (b ∷ i) w n a r h =
@@ -142,6 +143,34 @@ run-of (b ∷ i) w n a r h =
 
 pub runs : (line out input : List ℕ) → KEPT ≤ length line → ROOM ≤ length out → (output : List ℕ) × Run (start 0 line out) input output
 runs line out input h k = run-of input (start 0 line out) refl refl (record { few = omega arith; long = h; inside = omega arith }) k
+
+-- ---- the program's turns make a run
+
+-- what was handed over part by part, and a run from there on, are a run from the start on
+printing-runs : {w v : Work} {block left output : List ℕ} → Printing w block v left output
+    → (rest : List ℕ) {after : List ℕ} → Run v (left ++ rest) after → Run w (block ++ rest) (output ++ after)
+printing-runs none rest run = run
+printing-runs {w} {block = block} (part {v} {left} {output} p) rest {after} run =
+    let text = take (fill v left .marked .at) (fill v left .out) in
+    subst⁻¹ (λ (o : List ℕ). Run w (block ++ rest) o) (append-assoc output text after) (printing-runs p rest (more left rest run))
+
+-- a block that was printed whole, and a run from there on
+pub through-runs : {w v : Work} {block : List ℕ} (t : Through w block v true) (rest : List ℕ) {after : List ℕ}
+    → Run v rest after → Run w (block ++ rest) (t .output ++ after)
+through-runs {v = v} t rest {after} run = printing-runs (t .printing) rest (subst⁻¹ (λ (l : List ℕ). Run v (l ++ rest) after) (t .whole refl) run)
+
+-- some turns, and a run from there on
+turns-run : {w v : Work} {input output : List ℕ} → Turns w v input output
+    → (rest : List ℕ) {after : List ℕ} → Run v rest after → Run w (input ++ rest) (output ++ after)
+turns-run begun rest run = run
+turns-run {w} (turn {block = block} {input} {output} p t) rest {after} run =
+    subst⁻¹ (λ (i : List ℕ). Run w i ((output ++ t .output) ++ after)) (append-assoc input block rest)
+    (subst⁻¹ (λ (o : List ℕ). Run w (input ++ (block ++ rest)) o) (append-assoc output (t .output) after)
+    (turns-run p (block ++ rest) (through-runs t rest run)))
+
+-- what the program has handed over when it says that all was read and written: just what document 01 says of the input
+pub ran-prints : {line out after : List ℕ} → KEPT ≤ length line → (r : Ran (start 0 line out) after) → r .output ++ finishText (r .last) ≡ outputOf (r .input)
+ran-prints {line} {out} h r = prints line out h (turns-run (r .turns) [] ended) ∙ ap outputOf (append-nil (r .input))
 
 -- ---- two results that one contract allows are equal
 

@@ -3,7 +3,7 @@
 -- Assumes nothing.
 use mathlib.Core.Bool.{cond}
 use mathlib.Core.List.{List, [], _∷_}
-use Prim.Native.Nat.{ℕ, _+_, _≤_}
+use Prim.Native.Nat.{ℕ, _+_}
 use lib.Dec.{eqb, ltb, leb}
 use lib.ListN.{length, take, set}
 use lib.Seq.{sets}
@@ -62,15 +62,3 @@ onByte b w = cond (eqb b FEED) (answered w) (cond (ltb (w .marked .held) KEPT) (
 unfoldable pub fill : Work → List ℕ → Work
 fill w [] = w
 fill w (b ∷ more) = cond (leb (w .marked .at + ROOM) (length (w .out))) (fill (onByte b w) more) w
-
--- the buffers and marks are such as the functions ask for
-pub record Ready (m : Marks) (line out : List ℕ) : Type 0 where
-  pub few : m .held ≤ KEPT
-  pub long : KEPT ≤ length line
-  pub inside : m .at ≤ length out
-
--- what a caller lends with a line that has begun: the buffers are as long as need be
-pub record Lent (held : ℕ) (line out : List ℕ) : Type 0 where
-  pub few : held ≤ KEPT
-  pub long : KEPT ≤ length line
-  pub room : ROOM ≤ length out

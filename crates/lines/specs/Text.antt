@@ -2,11 +2,8 @@
 -- and place, with single spaces between and a line feed at the end. Assumes nothing.
 use mathlib.Core.Bool.{cond}
 use mathlib.Core.List.{List, [], _∷_, _++_}
-use mathlib.Core.Path.{_≡_}
 use Prim.Native.Nat.{ℕ, zero, suc, _+_, _/_, _%_}
 use lib.Dec.{ltb}
-use lib.ListN.{length}
-use lib.Seq.{sets}
 use lib.IntN.{ℤ, pos, negsuc}
 use Rattle.grid.specs.declared.Cell.{Cell}
 use Rattle.grid.specs.declared.Refusal.{Refusal}
@@ -68,8 +65,3 @@ refusalText r = refusedWord ++ twoText (r .number) (r .place)
 unfoldable pub answerText : Answer Cell → List ℕ
 answerText (accepted c) = cellText c
 answerText (refused r) = refusalText r
-
--- the text stands in the buffer from a place on, and nothing else of it has changed; the next place is behind it
-pub record Laid (before : List ℕ) (at : ℕ) (text : List ℕ) (next : ℕ) (after : List ℕ) : Type 0 where
-  pub ends : next ≡ at + length text
-  pub stands : after ≡ sets before at text

@@ -5,9 +5,10 @@ ghost use mathlib.Core.Path.{_≡_};
 ghost use Prim.Native.Nat.{_+_, _^_, _≤_, _<_};
 ghost use lib.ListN.{length, take};
 ghost use Rattle.grid.specs.Answers.{planeRead};
-ghost use Rattle.lines.specs.Text.{Laid, decimalOf, numberText, signedText, refusedWord, twoText, cornerText, cellText, refusalText, answerText};
+ghost use Rattle.lines.specs.Text.{decimalOf, numberText, signedText, refusedWord, twoText, cornerText, cellText, refusalText, answerText};
 ghost use Rattle.lines.specs.Lines.{lineText, lastLine, linesText};
-ghost use Rattle.lines.specs.Filling.{ROOM, work, start, onByte, fill, Ready, Lent};
+ghost use Rattle.lines.specs.Filling.{ROOM, work, start, onByte, fill};
+ghost use Rattle.lines.specs.inner.Buffers.{Laid, MarksWithin, Lent};
 use grid::Cell;
 use grid::PlaneRead;
 use grid::Refusal;
@@ -131,7 +132,7 @@ fn answer(line: &[u8], out: &mut [u8], at: usize) -> usize
 
 // One byte more of the input.
 fn take_byte(b: u8, m: Marks, line: &mut [u8], out: &mut [u8]) -> Marks
-    requires { ⌜ Ready m (now line) (now out) ⌝ }
+    requires { ⌜ MarksWithin m (now line) (now out) ⌝ }
     requires { ⌜ (m .next < 2 ^ 63) × (m .at + ROOM ≤ length (now out)) ⌝ }
     ensures { λ r. ⌜ work r (now (line .exit)) (now (out .exit)) ≡ onByte b (work m (now (line .entry)) (now (out .entry))) ⌝ }
 {

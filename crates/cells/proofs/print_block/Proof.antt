@@ -1,59 +1,68 @@
 -- `cells::print_block` meets its contract. The measure is what is left of the block. Assumes nothing.
-use mathlib.Core.Path.{_≡_, refl, _∙_}
-use Prim.Native.Nat.{_-_}
+use Prim.Native.Nat.{_+_, _-_, _<_}
 use native.Mathlib.Omega.{arith}
+use borrow.Author.Needs.{needs}
+use borrow.Author.Tests.{not-true}
 use lib.ListN.{length}
-use Rattle.lines.specs.Filling.{Lent}
+use Rattle.cells.proofs.Blocks.{not-both, Came, begins, goes-on, ends}
 use Rattle.cells.proofs.print_block.Statement.{statement}
 use Rattle.cells.proofs.print_block.Tie as tie
 
 abbrev Inv-loop : tie.InvT-loop
-Inv-loop block held line₀ out₀ here₀ line out here =
-    Lent (here .held) line out × (length line ≡ length line₀) × (length out ≡ length out₀)
+Inv-loop block held line₀ out₀ next₀ here₀ line out next here = Came block held line₀ out₀ next (here .held) line out
 
 abbrev μ-loop : tie.MeasureT-loop
-μ-loop block held line₀ out₀ here₀ line out here = length block - here .next
+μ-loop block held line₀ out₀ next₀ here₀ line out next here = length block - next
 
--- the buffers stay as long as they were
-next : (c : tie.After-print-some Inv-loop μ-loop)
-    → Lent (c .print-some .result .held) (c .print-some .last .1 .1 .1 .0) (c .print-some .last .1 .1 .1 .1 .0)
-    × (length (c .print-some .last .1 .1 .1 .0) ≡ length (c .before .before .before .before .before .before .before .before .before .args .line .now))
-    × (length (c .print-some .last .1 .1 .1 .1 .0) ≡ length (c .before .before .before .before .before .before .before .before .before .args .out .now))
-next c =
-    let i = c .before .before .before .before .before .loop .inv in
-    let l = c .print-some .kept .1 .1 .1 .0 in
-    let o = c .print-some .kept .1 .1 .1 .1 .0 in
-    (record { few = c .print-some .ensures .2; long = omega (arith, l, i .0 .long); room = omega (arith, o, i .0 .room) }, l ∙ i .1, o ∙ i .2)
+-- a part more has been printed
+more : (c : tie.After-print-some Inv-loop μ-loop)
+    → let s = c .before .before .before .before .before .before .before .before .before .args in
+    let p = c .print-some in
+    Came (s .block .now) (s .held) (s .line .now) (s .out .now) (c .before .before .before .before .before .loop .next + p .result .next) (p .result .held) (p .last .1 .1 .0) (p .last .1 .1 .1 .0)
+    × (0 < p .result .next)
+more c = goes-on (c .before .before .before .before .before .loop .inv) (c .before .before .before .before .loop-test .taken) (c .print-some .ensures)
 
 loop-holds : tie.Need-loop-holds Inv-loop μ-loop
-loop-holds c = (c .before .before .before .pre, refl, refl)
+loop-holds c = begins _ (c .before .before .before .pre)
+
+sub-print-some : tie.Need-sub-print-some Inv-loop μ-loop
+sub-print-some c = c .before .loop .inv .inside
+
+part-print-some-start : tie.Need-part-print-some-start Inv-loop μ-loop
+part-print-some-start c = let i = c .before .loop .inv .inside in search (needs, i)
+
+part-print-some-end : tie.Need-part-print-some-end Inv-loop μ-loop
+part-print-some-end c = search needs
 
 print-some-requires : tie.Need-print-some-requires Inv-loop μ-loop
-print-some-requires c κs = (c .before .before .if1 .taken, c .before .before .before .before .loop .inv .0)
+print-some-requires c κs = c .before .before .before .before .loop .inv .lent
 
 same-length : tie.Need-same-length Inv-loop μ-loop
-same-length c = next (c .before .before .before .before .before .before) .1
+same-length c = more (c .before .before .before .before .before .before) .0 .same-line
 
 same-length-2 : tie.Need-same-length-2 Inv-loop μ-loop
-same-length-2 c = next (c .before .before .before .before .before .before) .2
+same-length-2 c = more (c .before .before .before .before .before .before) .0 .same-out
 
 returns : tie.Need-returns Inv-loop μ-loop
-returns c = c .before .before .before .before .before .before .print-some .ensures .2
+returns c = let m = more (c .before .before .before .before .before .before) .0 in (m .lent .few, ends m _ (λ e. not-both e (not-true _ (c .if1 .taken))))
+
+add-next : tie.Need-add-next Inv-loop μ-loop
+add-next c = omega (arith, more (c .before .before .before .before .before .before .before) .0 .inside, c .before .before .before .before .before .before .before .before .before .before .before .before .before .before .before .before .good)
 
 loop-less : tie.Need-loop-less Inv-loop μ-loop
-loop-less c = omega (arith, c .before .before .before .before .before .before .print-some .ensures .0, c .before .before .before .before .before .before .before .before .before .if1 .taken)
+loop-less c = omega (arith, more (c .before .before .before .before .before .before .before) .1, more (c .before .before .before .before .before .before .before) .0 .inside)
 
 loop-again : tie.Need-loop-again Inv-loop μ-loop
-loop-again c = next (c .before .before .before .before .before .before)
+loop-again c = more (c .before .before .before .before .before .before .before) .0
 
 same-length-3 : tie.Need-same-length-3 Inv-loop μ-loop
-same-length-3 c = c .before .before .loop .inv .1
+same-length-3 c = c .before .loop .inv .same-line
 
 same-length-4 : tie.Need-same-length-4 Inv-loop μ-loop
-same-length-4 c = c .before .before .loop .inv .2
+same-length-4 c = c .before .loop .inv .same-out
 
 returns-2 : tie.Need-returns-2 Inv-loop μ-loop
-returns-2 c = c .before .before .loop .inv .0 .few
+returns-2 c = let i = c .before .loop .inv in (i .lent .few, ends i _ (λ _. c .loop-test .left))
 
 pub print-block-spec : {M : Type 1} → statement M
 print-block-spec =
@@ -62,10 +71,14 @@ print-block-spec =
     Inv-loop
     μ-loop
     loop-holds
+    sub-print-some
+    part-print-some-start
+    part-print-some-end
     print-some-requires
     same-length
     same-length-2
     returns
+    add-next
     loop-less
     loop-again
     same-length-3

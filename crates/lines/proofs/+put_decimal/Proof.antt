@@ -7,7 +7,8 @@ use borrow.Author.Needs.{needs}
 use borrow.Fn.Kinds.{In}
 use borrow.Fn.PlainCycle.{Measures, is, falls, and}
 use lib.ListN.{length, set, length-set}
-use Rattle.lines.specs.Text.{Laid, decimalOf}
+use Rattle.lines.specs.Text.{decimalOf}
+use Rattle.lines.specs.inner.Buffers.{Laid}
 use Rattle.lines.proofs.Laying.{laid-byte, laid-then, laid-length, laid-room, one-digit, nineteen, more-digits}
 use Rattle.lines.proofs.put_decimal.Reads as put-decimal
 use Rattle.lines.proofs.put_decimal.Kinds as put-decimal-kinds

@@ -1,7 +1,8 @@
 -- `lines::put_cell` meets its contract. Assumes nothing.
 use native.Mathlib.Omega.{arith}
 use borrow.Author.Needs.{needs}
-use Rattle.lines.specs.Text.{Laid, cornerText}
+use Rattle.lines.specs.Text.{cornerText}
+use Rattle.lines.specs.inner.Buffers.{Laid}
 use Rattle.lines.proofs.Laying.{laid-same, laid-then, laid-room, number-length, corner-length, handed-corner}
 use Rattle.lines.proofs.put_cell.Statement.{statement}
 use Rattle.lines.proofs.put_cell.Tie as tie

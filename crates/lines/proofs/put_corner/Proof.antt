@@ -1,6 +1,7 @@
 -- `lines::put_corner` meets its contract. Assumes nothing.
 use borrow.Author.Needs.{needs}
-use Rattle.lines.specs.Text.{Laid, signedText}
+use Rattle.lines.specs.Text.{signedText}
+use Rattle.lines.specs.inner.Buffers.{Laid}
 use Rattle.lines.proofs.Laying.{laid-same, laid-then, laid-room, signed-length, handed}
 use Rattle.lines.proofs.put_corner.Statement.{statement}
 use Rattle.lines.proofs.put_corner.Tie as tie

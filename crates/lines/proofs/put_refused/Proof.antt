@@ -7,7 +7,8 @@ use native.Mathlib.Numerals.{add-one}
 use borrow.Author.Needs.{needs}
 use lib.ListN.{take, set, getD}
 use lib.Seq.{take-suc, take-all}
-use Rattle.lines.specs.Text.{Laid, refusedWord}
+use Rattle.lines.specs.Text.{refusedWord}
+use Rattle.lines.specs.inner.Buffers.{Laid}
 use Rattle.lines.proofs.Laying.{laid-none, laid-byte, laid-then, laid-length}
 use Rattle.lines.proofs.put_refused.Statement.{statement}
 use Rattle.lines.proofs.put_refused.Tie as tie

@@ -1,0 +1,18 @@
+#!/usr/bin/env bash
+# Every file of the repository belongs to something: it names each one that does not, and fails if there is one.
+set -u
+cd "$(dirname "$(dirname "$(readlink -f "$0")")")" || exit 1
+crates=$(awk -F: '!/^#/ && NF > 1 { printf "%s%s", sep, $1; sep = "|" }' crates.txt)
+pattern="^(
+README.md|crates.txt|build|run|check|.gitignore|.ci/[a-z]+|
+crates/($crates)/(src/[a-z_/]+.rt|(specs|proofs)/[^ ]+.antt|must-fail/[a-z_]+.edit|stdin|stdout|args)|
+docs/[A-Z]+.md|docs/landings/[^ /]+.md|docs/pictures/[^ /]+.svg|
+include/hailgully.h|examples/[a-z_]+.(c|stdout)|
+(tests|bench|bindings/rust)/([a-z_/]+.(rs|c|sh|py|txt)|README.md|Cargo.(toml|lock)|rustfmt.toml)
+)\$"
+pattern=${pattern//$'\n'/}
+files=$(git ls-files) && [ -n "$files" ] || { echo 'files: git names no file here' && exit 1; }
+if printf '%s\n' "$files" | grep -v -E -x -e "${pattern//./\\.}"; then
+  echo 'files: these belong to nothing'
+  exit 1
+fi
