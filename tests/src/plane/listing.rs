@@ -40,18 +40,11 @@ impl Listed {
     }
 
     pub fn holds(&self, eastward: i64, latitude: i64) -> bool {
-        self.west <= eastward
-            && eastward < self.west + self.width
-            && self.south <= latitude
-            && latitude < self.south + self.height
+        self.west <= eastward && eastward < self.west + self.width && self.south <= latitude && latitude < self.south + self.height
     }
 
     pub fn cell(&self) -> PlaneCell {
-        let west = if self.west < TURN / 2 {
-            self.west
-        } else {
-            self.west - TURN
-        };
+        let west = if self.west < TURN / 2 { self.west } else { self.west - TURN };
         PlaneCell {
             level: self.level as u32,
             west: west as i32,
@@ -64,20 +57,9 @@ impl Listed {
     /// A cell of the next level: its region, characters, column strip (west
     /// edge and width), and the rows of `height` from the row that touches the
     /// equator's side (`toward_pole`) or the pole's side.
-    fn below(
-        &self,
-        region: Region,
-        text: &[u8],
-        strip: (i64, i64),
-        row: (i64, i64),
-        toward_pole: bool,
-    ) -> Listed {
+    fn below(&self, region: Region, text: &[u8], strip: (i64, i64), row: (i64, i64), toward_pole: bool) -> Listed {
         let (number, height) = row;
-        let south = if self.north == toward_pole {
-            self.south + number * height
-        } else {
-            self.south + self.height - (number + 1) * height
-        };
+        let south = if self.north == toward_pole { self.south + number * height } else { self.south + self.height - (number + 1) * height };
         let mut held = [0; 4];
         held[..text.len()].copy_from_slice(text);
         Listed {
@@ -191,11 +173,7 @@ fn grid(of: &Listed, (columns, rows): (i64, i64)) -> Vec<Listed> {
     let mut list = Vec::with_capacity((columns * rows) as usize);
     for row in 0..rows {
         for column in 0..columns {
-            let west = if in_the_west && !disc {
-                of.west + of.width - (column + 1) * width
-            } else {
-                of.west + column * width
-            };
+            let west = if in_the_west && !disc { of.west + of.width - (column + 1) * width } else { of.west + column * width };
             let text = characters(of.level + 1, column, row);
             list.push(of.below(of.region, &text, (west, width), (row, height), !disc));
         }
@@ -247,11 +225,7 @@ fn cap(of: &Listed) -> Vec<Listed> {
     };
     let (width, height) = (TURN / columns, of.height / rows);
     assert!(width * columns == TURN && height * rows == of.height);
-    let new_cap: &[u8] = if level == 3 || level == 6 {
-        b"0"
-    } else {
-        b"00"
-    };
+    let new_cap: &[u8] = if level == 3 || level == 6 { b"0" } else { b"00" };
     let mut list = vec![of.below(Region::Cap, new_cap, (0, TURN), (0, height), false)];
     for row in 1..rows {
         for column in 0..columns {
@@ -313,13 +287,7 @@ fn agreeing(list: &[Listed], code: &[u8], place: &mut usize) -> Result<Listed, R
                 return Ok(*found);
             }
             Some(_) => {}
-            None => {
-                return Err(Refusal {
-                    number: 7,
-                    ordinal: 1,
-                    place: (*place + seen - 1) as u64,
-                })
-            }
+            None => return Err(Refusal { number: 7, ordinal: 1, place: (*place + seen - 1) as u64 }),
         }
     }
     unreachable!("a listed cell has characters")

@@ -54,11 +54,7 @@ pub fn eastward(longitude: i64) -> i64 {
 
 /// "West lies in the longitude range": the longitude of an eastward number.
 pub fn west_of(eastward: i64) -> i32 {
-    let past = if slips::on(slips::WEST_EDGE_POSITIVE) {
-        eastward > TURN / 2
-    } else {
-        eastward >= TURN / 2
-    };
+    let past = if slips::on(slips::WEST_EDGE_POSITIVE) { eastward > TURN / 2 } else { eastward >= TURN / 2 };
     (if past { eastward - TURN } else { eastward }) as i32
 }
 
@@ -86,13 +82,7 @@ pub fn refuse_position(level: i64, longitude: i64, latitude: i64) -> Result<(), 
 }
 
 /// Position writer: refusals 1, 2, 3, 5.
-pub fn write(
-    level: i64,
-    longitude: i64,
-    latitude: i64,
-    line: &mut [u8],
-    at: usize,
-) -> Result<usize, Refusal> {
+pub fn write(level: i64, longitude: i64, latitude: i64, line: &mut [u8], at: usize) -> Result<usize, Refusal> {
     refuse_position(level, longitude, latitude)?;
     let code = write::finest(longitude, latitude);
     put(&code[..LENGTHS[level as usize - 1]], line, at)
