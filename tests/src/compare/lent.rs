@@ -28,9 +28,11 @@ impl Lent {
         };
         let mut lent = Lent { memory, length };
         for end in lent.ends_mut() {
-            for part in end.chunks_mut(8) {
-                part.copy_from_slice(&random.draw().to_le_bytes()[..part.len()]);
+            let mut parts = end.chunks_exact_mut(8);
+            for part in &mut parts {
+                part.copy_from_slice(&random.draw().to_le_bytes());
             }
+            parts.into_remainder().fill(random.draw() as u8);
         }
         lent
     }

@@ -82,11 +82,11 @@ fn character(number: i64) -> u8 {
     CHARACTERS[number as usize]
 }
 
-/// "Two characters are column, then row. One character is 2·row + column."
-fn characters(level: usize, column: i64, row: i64) -> Vec<u8> {
+/// "Two characters are column, then row. One character is 2·row + column." The characters, and how many they are.
+fn characters(level: usize, column: i64, row: i64) -> ([u8; 2], usize) {
     match level {
-        3 | 6 => vec![character(2 * row + column)],
-        _ => vec![character(column), character(row)],
+        3 | 6 => ([character(2 * row + column), 0], 1),
+        _ => ([character(column), character(row)], 2),
     }
 }
 
@@ -174,8 +174,8 @@ fn grid(of: &Listed, (columns, rows): (i64, i64)) -> Vec<Listed> {
     for row in 0..rows {
         for column in 0..columns {
             let west = if in_the_west && !disc { of.west + of.width - (column + 1) * width } else { of.west + column * width };
-            let text = characters(of.level + 1, column, row);
-            list.push(of.below(of.region, &text, (west, width), (row, height), !disc));
+            let (text, count) = characters(of.level + 1, column, row);
+            list.push(of.below(of.region, &text[..count], (west, width), (row, height), !disc));
         }
     }
     list
@@ -229,12 +229,12 @@ fn cap(of: &Listed) -> Vec<Listed> {
     let mut list = vec![of.below(Region::Cap, new_cap, (0, TURN), (0, height), false)];
     for row in 1..rows {
         for column in 0..columns {
-            let text = match level {
-                3 => vec![character(1 + column)],
+            let (text, count) = match level {
+                3 => ([character(1 + column), 0], 1),
                 _ => characters(level, column, row),
             };
             let strip = (column * width, width);
-            list.push(of.below(Region::Disc, &text, strip, (row, height), false));
+            list.push(of.below(Region::Disc, &text[..count], strip, (row, height), false));
         }
     }
     list
@@ -280,7 +280,7 @@ fn agreeing(list: &[Listed], code: &[u8], place: &mut usize) -> Result<Listed, R
     let rest = &code[*place..];
     let count = list[0].text().len();
     for seen in 1..=count {
-        let agree = |part: &&Listed| part.text()[..seen] == rest[..seen];
+        let agree = |part: &&Listed| part.text().iter().zip(rest).take(seen).all(|(one, other)| one == other);
         match list.iter().find(agree) {
             Some(found) if seen == count => {
                 *place += count;
