@@ -118,8 +118,11 @@ pub fn near_edge(random: &mut Random) -> (i64, i64) {
 
 /// A square of any kind.
 pub fn anywhere(random: &mut Random) -> (i64, i64) {
-    let pick = random.pick(&[ordinary, polar, near_edge]);
-    pick(random)
+    match random.below(3) {
+        0 => ordinary(random),
+        1 => polar(random),
+        _ => near_edge(random),
+    }
 }
 
 /// Adds a number and its neighbours.
