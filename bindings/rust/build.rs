@@ -13,7 +13,9 @@ fn main() {
     println!("cargo::rerun-if-changed={}", library.display());
     if !library.exists() {
         let folder = folder.display();
-        println!("cargo::error=no libhailgully.a in {folder}: ./build at the repository's root makes it, HAILGULLY_LIB_DIR names another folder");
+        println!(
+            "cargo::error=no libhailgully.a in {folder}: ./build at the repository's root makes it, HAILGULLY_LIB_DIR names another folder"
+        );
     }
     println!("cargo::rustc-link-search=native={}", folder.display());
     println!("cargo::rustc-link-lib=static=hailgully");

@@ -40,7 +40,8 @@ impl Options {
                 _ => return Err(format!("unknown word {word}")),
             }
         }
-        if let Ok(given) = std::env::var("HG_SLIP") {
+        if let Some(given) = std::env::var_os("HG_SLIP") {
+            let given = given.to_string_lossy();
             options.slip = number("HG_SLIP", &given)? as u32;
             if options.slip > faults::count() || options.slips {
                 return Err(format!("HG_SLIP={given}: slips are 1 to {}, and go with no --slips", faults::count()));
