@@ -295,7 +295,7 @@ pub fn listed_code(random: &mut Random, level: usize) -> Vec<u8> {
     let mut code = at.text().to_vec();
     while at.level < level {
         let list = listing::children(&at);
-        let cap = list.iter().find(|cell| cell.region == listing::Region::Cap);
+        let cap = list.iter().find(|cell| cell.region == plane::Region::Cap);
         at = match cap {
             Some(cap) if !random.one_in(4) => *cap,
             _ => random.pick(&list),

@@ -180,7 +180,7 @@ fn lists_divide() {
                 }
             }
             at = if random.one_in(2) { list[list.len() / 2] } else { random.pick(&list) };
-            let cap = list.iter().find(|cell| cell.region == listing::Region::Cap);
+            let cap = list.iter().find(|cell| cell.region == plane::Region::Cap);
             if let (Some(cap), true) = (cap, random.one_in(2)) {
                 at = *cap;
             }

@@ -3,21 +3,9 @@
 //! that holds the square, a reader for the listed cell whose characters agree.
 //! Slow, and no slip reaches it.
 
-use super::{PlaneCell, DEGREE, LENGTHS, TURN};
+use super::{PlaneCell, Region, DEGREE, LENGTHS, TURN};
 use crate::refusals::{refusal, Refusal};
 use std::sync::OnceLock;
-
-#[derive(Clone, Copy, Debug, PartialEq, Eq)]
-pub enum Region {
-    Ordinary,
-    /// N000 or S000.
-    Pole,
-    /// 88° to 89°.
-    Belt,
-    /// 89° to 90°, but no cap.
-    Disc,
-    Cap,
-}
 
 /// A cell with the characters that its own level adds. `west` is taken
 /// eastward from the prime meridian, 0 to a turn less one.

@@ -17,6 +17,19 @@ pub const POLAR_INDEX: i64 = 648_806_400;
 /// Lengths of the codes of levels 1 to 10.
 pub const LENGTHS: [usize; 10] = [4, 6, 7, 9, 11, 12, 14, 16, 18, 20];
 
+/// What kind of cell the rules divide.
+#[derive(Clone, Copy, Debug, PartialEq, Eq)]
+pub enum Region {
+    Ordinary,
+    /// N000 or S000.
+    Pole,
+    /// 88° to 89°.
+    Belt,
+    /// 89° to 90°, but no cap.
+    Disc,
+    Cap,
+}
+
 /// "A plane cell is level, west, south, width, height."
 #[derive(Clone, Copy, Debug, PartialEq, Eq)]
 pub struct PlaneCell {

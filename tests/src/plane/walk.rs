@@ -2,17 +2,8 @@
 //! back where the walk then stands, or nothing where the character is not
 //! allowed, given those before it.
 
-use super::{west_of, PlaneCell, DEGREE, POLAR_INDEX, TURN};
+use super::{west_of, PlaneCell, Region, DEGREE, POLAR_INDEX, TURN};
 use crate::slips;
-
-#[derive(Clone, Copy, Debug, PartialEq, Eq)]
-enum Region {
-    Ordinary,
-    Pole,
-    Belt,
-    Disc,
-    Cap,
-}
 
 /// A cell (its west edge `start` eastward, its edge on the equator's side
 /// `near` as a latitude index) and the characters of the next level so far.

@@ -4,8 +4,8 @@
 use super::{fixed, Family};
 use crate::checks::Run;
 use hailgully_tests::cases::wrap;
-use hailgully_tests::plane::listing::{self, Listed, Region};
-use hailgully_tests::plane::{write, LENGTHS};
+use hailgully_tests::plane::listing::{self, Listed};
+use hailgully_tests::plane::{write, Region, LENGTHS};
 use hailgully_tests::space;
 
 pub fn families() -> Vec<Family> {
