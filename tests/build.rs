@@ -1,50 +1,22 @@
-//! Says where libhailgully.a lies: HAILGULLY_LIB_DIR, or ../target/staticlib.
-//! Only the program `compare` asks for it (`#[link]` in src/ffi.rs), so the
-//! oracle's own tests need no library.
-//!
-//! The library is linked statically. Should it bring a panic handler of its
-//! own, that would clash with this program's; HAILGULLY_LINK=shared then makes
-//! a shared library out of the same archive first, and links that.
+//! Links libhailgully.a from HAILGULLY_LIB_DIR, or else from target/hailgully at the repository's root, which ./build fills. The wrapper, the
+//! tests and the bench have this same file.
 
-use std::path::{Path, PathBuf};
-use std::process::Command;
+use std::path::PathBuf;
 
 fn main() {
-    let here = PathBuf::from(std::env::var("CARGO_MANIFEST_DIR").expect("cargo sets this"));
-    let folder = match std::env::var_os("HAILGULLY_LIB_DIR") {
-        Some(given) => here.join(given),
-        None => here.join("../target/staticlib"),
-    };
+    let here = PathBuf::from(std::env::var_os("CARGO_MANIFEST_DIR").expect("cargo sets it"));
+    let root = here.ancestors().find(|folder| folder.join("crates.txt").exists()).unwrap_or(&here);
+    let given = std::env::var_os("HAILGULLY_LIB_DIR");
+    let folder = given.map_or_else(|| root.join("target/hailgully"), |given| here.join(given));
     let library = folder.join("libhailgully.a");
-    println!("cargo:rerun-if-env-changed=HAILGULLY_LIB_DIR");
-    println!("cargo:rerun-if-env-changed=HAILGULLY_LINK");
-    println!("cargo:rerun-if-changed={}", library.display());
-    println!("cargo:rustc-check-cfg=cfg(shared_library)");
-    if std::env::var("HAILGULLY_LINK").is_ok_and(|word| word == "shared") {
-        shared(&library);
-    } else {
-        println!("cargo:rustc-link-search=native={}", folder.display());
+    println!("cargo::rerun-if-env-changed=HAILGULLY_LIB_DIR");
+    println!("cargo::rerun-if-changed={}", library.display());
+    if !library.exists() {
+        let folder = folder.display();
+        println!(
+            "cargo::error=no libhailgully.a in {folder}: ./build at the repository's root makes it, HAILGULLY_LIB_DIR names another folder"
+        );
     }
-}
-
-/// libhailgully.so in cargo's own folder, with nothing but hg_ names outside.
-fn shared(library: &Path) {
-    let out = PathBuf::from(std::env::var("OUT_DIR").expect("cargo sets this"));
-    let names = out.join("names");
-    std::fs::write(&names, "{ global: hg_*; local: *; };").expect("the folder can be written");
-    let made = Command::new("cc")
-        .arg("-shared")
-        .arg("-o")
-        .arg(out.join("libhailgully.so"))
-        .arg("-Wl,--whole-archive")
-        .arg(library)
-        .arg("-Wl,--no-whole-archive")
-        .arg(format!("-Wl,--version-script={}", names.display()))
-        .status()
-        .expect("cc can be started");
-    assert!(made.success(), "no shared library could be made");
-    println!("cargo:rustc-cfg=shared_library");
-    println!("cargo:rustc-link-search=native={}", out.display());
-    let found_there = format!("-Wl,-rpath,{}", out.display());
-    println!("cargo:rustc-link-arg-bin=compare={found_there}");
+    println!("cargo::rustc-link-search=native={}", folder.display());
+    println!("cargo::rustc-link-lib=static=hailgully");
 }

@@ -10,11 +10,7 @@ use crate::slips;
 pub enum Reading {
     NotANumber,
     Infinite,
-    Finite {
-        negative: bool,
-        significand: i128,
-        power: i32,
-    },
+    Finite { negative: bool, significand: i128, power: i32 },
 }
 
 pub fn reading(bits: u64) -> Reading {
@@ -24,28 +20,15 @@ pub fn reading(bits: u64) -> Reading {
     match (exponent, fraction) {
         (0x7ff, 0) => Reading::Infinite,
         (0x7ff, _) => Reading::NotANumber,
-        (0, _) => Reading::Finite {
-            negative,
-            significand: i128::from(fraction),
-            power: -1074,
-        },
-        _ => Reading::Finite {
-            negative,
-            significand: i128::from(fraction + (1 << 52)),
-            power: exponent as i32 - 1075,
-        },
+        (0, _) => Reading::Finite { negative, significand: i128::from(fraction), power: -1074 },
+        _ => Reading::Finite { negative, significand: i128::from(fraction + (1 << 52)), power: exponent as i32 - 1075 },
     }
 }
 
 /// "The greatest whole units not above 2048 times the reading"; nothing where
 /// that number is far outside every range.
 fn units(bits: u64) -> Option<i64> {
-    let Reading::Finite {
-        negative,
-        significand,
-        power,
-    } = reading(bits)
-    else {
+    let Reading::Finite { negative, significand, power } = reading(bits) else {
         return None;
     };
     let signed = if negative { -significand } else { significand };
@@ -53,11 +36,7 @@ fn units(bits: u64) -> Option<i64> {
     let power = power + 11;
     if power >= 0 {
         // A significand of 53 bits, or 0, moved up.
-        return if power > 40 {
-            None
-        } else {
-            i64::try_from(signed << power).ok()
-        };
+        return if power > 40 { None } else { i64::try_from(signed << power).ok() };
     }
     let down = (-power).min(100);
     if slips::on(slips::TOWARD_ZERO) {

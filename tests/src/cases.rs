@@ -38,12 +38,8 @@ impl Random {
 }
 
 /// Unit heights of cells of every kind; all but the first also polar.
-const HEIGHTS: [i64; 11] = [
-    29_491_200, 3_686_400, 1_843_200, 1_228_800, 122_880, 8_192, 4_096, 512, 64, 8, 1,
-];
-const WIDTHS: [i64; 10] = [
-    44_236_800, 3_686_400, 1_843_200, 122_880, 8_192, 4_096, 512, 64, 8, 1,
-];
+const HEIGHTS: [i64; 11] = [29_491_200, 3_686_400, 1_843_200, 1_228_800, 122_880, 8_192, 4_096, 512, 64, 8, 1];
+const WIDTHS: [i64; 10] = [44_236_800, 3_686_400, 1_843_200, 122_880, 8_192, 4_096, 512, 64, 8, 1];
 
 /// A latitude of this hemisphere by its outward index.
 fn at_index(north: bool, index: i64) -> i64 {
@@ -98,11 +94,7 @@ pub fn polar(random: &mut Random) -> (i64, i64) {
 
 /// One unit either side of, or on, an edge of some cell of some level.
 pub fn near_edge(random: &mut Random) -> (i64, i64) {
-    let (longitude, latitude) = if random.one_in(2) {
-        ordinary(random)
-    } else {
-        polar(random)
-    };
+    let (longitude, latitude) = if random.one_in(2) { ordinary(random) } else { polar(random) };
     let code = plane::write::finest(longitude, latitude);
     let length = random.pick(&LENGTHS);
     let Ok(end) = plane::walk::whole(&code[..length]) else {
@@ -122,6 +114,15 @@ pub fn near_edge(random: &mut Random) -> (i64, i64) {
         _ => south + height + random.between(-1, 1),
     };
     (longitude, latitude.clamp(LATITUDE.0, LATITUDE.1))
+}
+
+/// A square of any kind.
+pub fn anywhere(random: &mut Random) -> (i64, i64) {
+    match random.below(3) {
+        0 => ordinary(random),
+        1 => polar(random),
+        _ => near_edge(random),
+    }
 }
 
 /// Adds a number and its neighbours.
@@ -184,9 +185,7 @@ pub fn edge_layers() -> Vec<i64> {
     around(&mut list, 0);
     around(&mut list, LAYER.0 + 1);
     around(&mut list, LAYER.1 - 1);
-    for thickness in [
-        29_491_200, 3_686_400, 1_843_200, 122_880, 8_192, 4_096, 512, 64, 8, 1i64,
-    ] {
+    for thickness in [29_491_200, 3_686_400, 1_843_200, 122_880, 8_192, 4_096, 512, 64, 8, 1i64] {
         for count in [1, 2, 3, 7, 8, 14, 15, 16, 63, 64] {
             around(&mut list, thickness * count);
             around(&mut list, -thickness * count);
@@ -249,6 +248,25 @@ pub fn other_character(random: &mut Random) -> u8 {
     }
 }
 
+/// Puts a bad character somewhere into a code.
+pub fn damage(random: &mut Random, code: &mut [u8]) {
+    let place = random.below(code.len() as u64) as usize;
+    code[place] = other_character(random);
+}
+
+/// A level, a longitude and a latitude, each often outside its range.
+pub fn odd_position(random: &mut Random) -> (i64, i64, i64) {
+    let (longitude, latitude) = near_edge(random);
+    let level = random.between(1, 10);
+    let mut odd = |number, range| if random.one_in(3) { outside(random, range) } else { number };
+    (odd(level, (1, 10)), odd(longitude, LONGITUDE), odd(latitude, LATITUDE))
+}
+
+/// The length of a level's codes; of the nearest level's where there is no such level.
+pub fn length_of(level: i64, lengths: &[usize; 10]) -> usize {
+    lengths[level.clamp(1, 10) as usize - 1]
+}
+
 /// Squares in each kind of region, for the wide damage of codes.
 pub fn places_of_each_kind() -> Vec<(i64, i64)> {
     let mut list = Vec::new();
@@ -273,15 +291,11 @@ pub fn places_of_each_kind() -> Vec<(i64, i64)> {
 pub fn listed_code(random: &mut Random, level: usize) -> Vec<u8> {
     let first = listing::first_level();
     let poles = [first[0], first[first.len() / 2]];
-    let mut at = if random.one_in(3) {
-        random.pick(&poles)
-    } else {
-        random.pick(first)
-    };
+    let mut at = if random.one_in(3) { random.pick(&poles) } else { random.pick(first) };
     let mut code = at.text().to_vec();
     while at.level < level {
         let list = listing::children(&at);
-        let cap = list.iter().find(|cell| cell.region == listing::Region::Cap);
+        let cap = list.iter().find(|cell| cell.region == plane::Region::Cap);
         at = match cap {
             Some(cap) if !random.one_in(4) => *cap,
             _ => random.pick(&list),
@@ -386,12 +400,7 @@ pub fn any_reading(random: &mut Random) -> u64 {
             let exponent = random.between(1023 - 30, 1023 + 34) as u64;
             (random.draw() & !(0x7ff << 52)) | exponent << 52
         }
-        2 => random.pick(&[
-            0x7ff8u64 << 48,
-            0x7ff0 << 48,
-            0xfff0 << 48,
-            0x7ff0_0000_0000_0001,
-        ]),
+        2 => random.pick(&[0x7ff8u64 << 48, 0x7ff0 << 48, 0xfff0 << 48, 0x7ff0_0000_0000_0001]),
         _ => {
             let units = random.between(LONGITUDE.0 - 9, LONGITUDE.1 + 9) >> random.below(32);
             let bits = crate::arcseconds::over_2048(units);
@@ -422,25 +431,11 @@ pub const DOCUMENT_POSITIONS: [(i64, i64, i64); 17] = [
 ];
 
 /// Plane codes that the document names, good and bad.
-pub const DOCUMENT_CODES: [&str; 9] = [
-    "N36J93078B3101524314",
-    "N50J47539B825534",
-    "N50J475492E",
-    "N30AB0",
-    "N00A",
-    "N61A",
-    "",
-    "N31A",
-    "n31A",
-];
+pub const DOCUMENT_CODES: [&str; 9] =
+    ["N36J93078B3101524314", "N50J47539B825534", "N50J475492E", "N30AB0", "N00A", "N61A", "", "N31A", "n31A"];
 
 /// Reference codes of the document's P13, and `N31A-10`.
-pub const DOCUMENT_REFERENCES: [&str; 4] = [
-    "N50J475492E-10",
-    "N31A0000000-0A",
-    "N30A0000000-10",
-    "N31A-10",
-];
+pub const DOCUMENT_REFERENCES: [&str; 4] = ["N50J475492E-10", "N31A0000000-0A", "N30A0000000-10", "N31A-10"];
 
 /// An input for the small program: good and damaged codes, empty lines, lines
 /// of every length around 20, carriage returns, null bytes, and in half of the
@@ -463,12 +458,11 @@ pub fn program_input(random: &mut Random, lines: u64) -> Vec<u8> {
             }
             4 => input.extend_from_slice(&code[..random.below(21) as usize]),
             _ => {
-                let from = input.len();
-                input.extend_from_slice(&code[..length]);
+                let mut code = code;
                 if random.one_in(3) {
-                    let place = from + random.below(length as u64) as usize;
-                    input[place] = other_character(random);
+                    damage(random, &mut code[..length]);
                 }
+                input.extend_from_slice(&code[..length]);
             }
         }
         input.push(b'\n');

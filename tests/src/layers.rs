@@ -5,9 +5,7 @@ use crate::space::LAYER;
 
 /// Parts of each height cell at levels 2 to 10.
 const PARTS: [i64; 9] = [8, 2, 15, 15, 2, 8, 8, 8, 8];
-const CHARACTERS: [char; 15] = [
-    '0', '1', '2', '3', '4', '5', '6', '7', '8', '9', 'A', 'B', 'C', 'D', 'E',
-];
+const CHARACTERS: [char; 15] = ['0', '1', '2', '3', '4', '5', '6', '7', '8', '9', 'A', 'B', 'C', 'D', 'E'];
 
 /// A height cell: its characters so far (the sign first), floor, thickness.
 pub struct HeightCell {
@@ -23,11 +21,7 @@ pub fn height_cell(level: usize, layer: i64) -> HeightCell {
     let mut list = Vec::new();
     for (sign, ground) in [(0, 0), (1, LAYER.0)] {
         for number in 0..64 {
-            list.push(HeightCell {
-                text: format!("{sign}{number:02}"),
-                floor: ground + number * thickness,
-                thickness,
-            });
+            list.push(HeightCell { text: format!("{sign}{number:02}"), floor: ground + number * thickness, thickness });
         }
     }
     let mut at = the_one(list, layer);

@@ -22,10 +22,7 @@ pub fn answers(input: &[u8]) -> Vec<u8> {
 /// "It prints level, west, south, width, height, or "refused", number, place."
 fn answer(line: &[u8]) -> String {
     match plane::read(line) {
-        Ok(cell) => format!(
-            "{} {} {} {} {}",
-            cell.level, cell.west, cell.south, cell.width, cell.height
-        ),
+        Ok(cell) => format!("{} {} {} {} {}", cell.level, cell.west, cell.south, cell.width, cell.height),
         Err(refusal) => format!("refused {} {}", refusal.number, refusal.place),
     }
 }

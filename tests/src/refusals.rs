@@ -13,33 +13,18 @@ pub struct Refusal {
 
 /// A refusal with place 0 and ordinal 1.
 pub fn refusal(number: u32) -> Refusal {
-    Refusal {
-        number,
-        ordinal: 1,
-        place: 0,
-    }
+    Refusal { number, ordinal: 1, place: 0 }
 }
 
 /// Refusal 7: "a character is not allowed at its place, given those before it".
 pub fn bad_character(place: usize) -> Refusal {
     let off = u64::from(slips::on(slips::PLACE_OFF_BY_ONE));
-    Refusal {
-        number: 7,
-        ordinal: 1,
-        place: place as u64 + off,
-    }
+    Refusal { number: 7, ordinal: 1, place: place as u64 + off }
 }
 
 /// The same refusal, of a second code.
 pub fn of_second_code(first: Refusal) -> Refusal {
-    Refusal {
-        ordinal: if slips::on(slips::ORDINAL_ALWAYS_ONE) {
-            1
-        } else {
-            2
-        },
-        ..first
-    }
+    Refusal { ordinal: if slips::on(slips::ORDINAL_ALWAYS_ONE) { 1 } else { 2 }, ..first }
 }
 
 /// "The code is written from a given place in the lent line; bytes before it
@@ -47,8 +32,7 @@ pub fn of_second_code(first: Refusal) -> Refusal {
 /// bytes for the whole code; a place past the end counts as none".
 pub fn put(code: &[u8], line: &mut [u8], at: usize) -> Result<usize, Refusal> {
     let room = line.len().saturating_sub(at);
-    if slips::on(slips::PLACE_WRAPS) && at > line.len() && at.wrapping_add(code.len()) <= line.len()
-    {
+    if slips::on(slips::PLACE_WRAPS) && at > line.len() && at.wrapping_add(code.len()) <= line.len() {
         return Ok(code.len());
     }
     let exact = slips::on(slips::EXACT_FIT_REFUSED) && room == code.len();

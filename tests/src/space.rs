@@ -52,14 +52,7 @@ fn heights(layer: i64) -> (u8, [u8; 11]) {
 }
 
 /// Position writer: refusals 1, 2, 3, 4, 5.
-pub fn write(
-    level: i64,
-    longitude: i64,
-    latitude: i64,
-    layer: i64,
-    line: &mut [u8],
-    at: usize,
-) -> Result<usize, Refusal> {
+pub fn write(level: i64, longitude: i64, latitude: i64, layer: i64, line: &mut [u8], at: usize) -> Result<usize, Refusal> {
     refuse_position(level, longitude, latitude)?;
     let length = LENGTHS[level as usize - 1];
     if slips::on(slips::LINE_BEFORE_LAYER) && line.len().saturating_sub(at) < length {
@@ -80,6 +73,13 @@ pub fn write(
         };
     }
     put(&code[..length], line, at)
+}
+
+/// The level 10 code of a square and a layer in their ranges.
+pub fn finest((longitude, latitude): (i64, i64), layer: i64) -> [u8; 32] {
+    let mut code = [b'0'; 32];
+    let _ = write(10, longitude, latitude, layer, &mut code, 0);
+    code
 }
 
 /// A space code in reading: the plane walk, and the heights so far.
@@ -137,13 +137,7 @@ impl SpaceWalk {
 
 /// Walks all these characters: the end, or the place of the first bad one.
 fn whole(code: &[u8]) -> Result<SpaceWalk, usize> {
-    let mut walk = SpaceWalk {
-        plane: Walk::start(),
-        below: false,
-        height: 0,
-        tens: 0,
-        levels: 0,
-    };
+    let mut walk = SpaceWalk { plane: Walk::start(), below: false, height: 0, tens: 0, levels: 0 };
     for (place, &character) in code.iter().enumerate() {
         let turn = *TURNS.get(place).ok_or(place)?;
         let next = walk.take(turn, character);
@@ -158,6 +152,18 @@ pub fn first_bad(code: &[u8]) -> Option<usize> {
     whole(code).err()
 }
 
+/// The plane characters of a space code, and how many they are.
+pub fn plane_part(code: &[u8]) -> ([u8; 20], usize) {
+    let mut flat = [b'0'; 20];
+    let characters = code.iter().zip(TURNS).filter(|(_, turn)| **turn == b'p');
+    let mut length = 0;
+    for (to, (character, _)) in flat.iter_mut().zip(characters) {
+        *to = *character;
+        length += 1;
+    }
+    (flat, length)
+}
+
 /// Whole-code reader: refusals 6, 7.
 pub fn read(code: &[u8]) -> Result<SpaceCell, Refusal> {
     if level_of(code.len()).is_none() {
@@ -168,9 +174,5 @@ pub fn read(code: &[u8]) -> Result<SpaceCell, Refusal> {
     // "So the cell's layer floor is always its lower face."
     let up = end.height * thickness;
     let floor = if end.below { up - 1_887_436_800 } else { up };
-    Ok(SpaceCell {
-        plane: end.plane.cell(),
-        floor: floor as i32,
-        thickness: thickness as u32,
-    })
+    Ok(SpaceCell { plane: end.plane.cell(), floor: floor as i32, thickness: thickness as u32 })
 }

@@ -3,21 +3,9 @@
 //! that holds the square, a reader for the listed cell whose characters agree.
 //! Slow, and no slip reaches it.
 
-use super::{PlaneCell, DEGREE, LENGTHS, TURN};
+use super::{PlaneCell, Region, DEGREE, LENGTHS, TURN};
 use crate::refusals::{refusal, Refusal};
 use std::sync::OnceLock;
-
-#[derive(Clone, Copy, Debug, PartialEq, Eq)]
-pub enum Region {
-    Ordinary,
-    /// N000 or S000.
-    Pole,
-    /// 88° to 89°.
-    Belt,
-    /// 89° to 90°, but no cap.
-    Disc,
-    Cap,
-}
 
 /// A cell with the characters that its own level adds. `west` is taken
 /// eastward from the prime meridian, 0 to a turn less one.
@@ -40,18 +28,11 @@ impl Listed {
     }
 
     pub fn holds(&self, eastward: i64, latitude: i64) -> bool {
-        self.west <= eastward
-            && eastward < self.west + self.width
-            && self.south <= latitude
-            && latitude < self.south + self.height
+        self.west <= eastward && eastward < self.west + self.width && self.south <= latitude && latitude < self.south + self.height
     }
 
     pub fn cell(&self) -> PlaneCell {
-        let west = if self.west < TURN / 2 {
-            self.west
-        } else {
-            self.west - TURN
-        };
+        let west = if self.west < TURN / 2 { self.west } else { self.west - TURN };
         PlaneCell {
             level: self.level as u32,
             west: west as i32,
@@ -64,20 +45,9 @@ impl Listed {
     /// A cell of the next level: its region, characters, column strip (west
     /// edge and width), and the rows of `height` from the row that touches the
     /// equator's side (`toward_pole`) or the pole's side.
-    fn below(
-        &self,
-        region: Region,
-        text: &[u8],
-        strip: (i64, i64),
-        row: (i64, i64),
-        toward_pole: bool,
-    ) -> Listed {
+    fn below(&self, region: Region, text: &[u8], strip: (i64, i64), row: (i64, i64), toward_pole: bool) -> Listed {
         let (number, height) = row;
-        let south = if self.north == toward_pole {
-            self.south + number * height
-        } else {
-            self.south + self.height - (number + 1) * height
-        };
+        let south = if self.north == toward_pole { self.south + number * height } else { self.south + self.height - (number + 1) * height };
         let mut held = [0; 4];
         held[..text.len()].copy_from_slice(text);
         Listed {
@@ -100,11 +70,11 @@ fn character(number: i64) -> u8 {
     CHARACTERS[number as usize]
 }
 
-/// "Two characters are column, then row. One character is 2·row + column."
-fn characters(level: usize, column: i64, row: i64) -> Vec<u8> {
+/// "Two characters are column, then row. One character is 2·row + column." The characters, and how many they are.
+fn characters(level: usize, column: i64, row: i64) -> ([u8; 2], usize) {
     match level {
-        3 | 6 => vec![character(2 * row + column)],
-        _ => vec![character(column), character(row)],
+        3 | 6 => ([character(2 * row + column), 0], 1),
+        _ => ([character(column), character(row)], 2),
     }
 }
 
@@ -191,13 +161,9 @@ fn grid(of: &Listed, (columns, rows): (i64, i64)) -> Vec<Listed> {
     let mut list = Vec::with_capacity((columns * rows) as usize);
     for row in 0..rows {
         for column in 0..columns {
-            let west = if in_the_west && !disc {
-                of.west + of.width - (column + 1) * width
-            } else {
-                of.west + column * width
-            };
-            let text = characters(of.level + 1, column, row);
-            list.push(of.below(of.region, &text, (west, width), (row, height), !disc));
+            let west = if in_the_west && !disc { of.west + of.width - (column + 1) * width } else { of.west + column * width };
+            let (text, count) = characters(of.level + 1, column, row);
+            list.push(of.below(of.region, &text[..count], (west, width), (row, height), !disc));
         }
     }
     list
@@ -247,20 +213,16 @@ fn cap(of: &Listed) -> Vec<Listed> {
     };
     let (width, height) = (TURN / columns, of.height / rows);
     assert!(width * columns == TURN && height * rows == of.height);
-    let new_cap: &[u8] = if level == 3 || level == 6 {
-        b"0"
-    } else {
-        b"00"
-    };
+    let new_cap: &[u8] = if level == 3 || level == 6 { b"0" } else { b"00" };
     let mut list = vec![of.below(Region::Cap, new_cap, (0, TURN), (0, height), false)];
     for row in 1..rows {
         for column in 0..columns {
-            let text = match level {
-                3 => vec![character(1 + column)],
+            let (text, count) = match level {
+                3 => ([character(1 + column), 0], 1),
                 _ => characters(level, column, row),
             };
             let strip = (column * width, width);
-            list.push(of.below(Region::Disc, &text, strip, (row, height), false));
+            list.push(of.below(Region::Disc, &text[..count], strip, (row, height), false));
         }
     }
     list
@@ -306,20 +268,14 @@ fn agreeing(list: &[Listed], code: &[u8], place: &mut usize) -> Result<Listed, R
     let rest = &code[*place..];
     let count = list[0].text().len();
     for seen in 1..=count {
-        let agree = |part: &&Listed| part.text()[..seen] == rest[..seen];
+        let agree = |part: &&Listed| part.text().iter().zip(rest).take(seen).all(|(one, other)| one == other);
         match list.iter().find(agree) {
             Some(found) if seen == count => {
                 *place += count;
                 return Ok(*found);
             }
             Some(_) => {}
-            None => {
-                return Err(Refusal {
-                    number: 7,
-                    ordinal: 1,
-                    place: (*place + seen - 1) as u64,
-                })
-            }
+            None => return Err(Refusal { number: 7, ordinal: 1, place: (*place + seen - 1) as u64 }),
         }
     }
     unreachable!("a listed cell has characters")

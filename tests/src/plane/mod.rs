@@ -17,6 +17,19 @@ pub const POLAR_INDEX: i64 = 648_806_400;
 /// Lengths of the codes of levels 1 to 10.
 pub const LENGTHS: [usize; 10] = [4, 6, 7, 9, 11, 12, 14, 16, 18, 20];
 
+/// What kind of cell the rules divide.
+#[derive(Clone, Copy, Debug, PartialEq, Eq)]
+pub enum Region {
+    Ordinary,
+    /// N000 or S000.
+    Pole,
+    /// 88° to 89°.
+    Belt,
+    /// 89° to 90°, but no cap.
+    Disc,
+    Cap,
+}
+
 /// "A plane cell is level, west, south, width, height."
 #[derive(Clone, Copy, Debug, PartialEq, Eq)]
 pub struct PlaneCell {
@@ -54,11 +67,7 @@ pub fn eastward(longitude: i64) -> i64 {
 
 /// "West lies in the longitude range": the longitude of an eastward number.
 pub fn west_of(eastward: i64) -> i32 {
-    let past = if slips::on(slips::WEST_EDGE_POSITIVE) {
-        eastward > TURN / 2
-    } else {
-        eastward >= TURN / 2
-    };
+    let past = if slips::on(slips::WEST_EDGE_POSITIVE) { eastward > TURN / 2 } else { eastward >= TURN / 2 };
     (if past { eastward - TURN } else { eastward }) as i32
 }
 
@@ -86,13 +95,7 @@ pub fn refuse_position(level: i64, longitude: i64, latitude: i64) -> Result<(), 
 }
 
 /// Position writer: refusals 1, 2, 3, 5.
-pub fn write(
-    level: i64,
-    longitude: i64,
-    latitude: i64,
-    line: &mut [u8],
-    at: usize,
-) -> Result<usize, Refusal> {
+pub fn write(level: i64, longitude: i64, latitude: i64, line: &mut [u8], at: usize) -> Result<usize, Refusal> {
     refuse_position(level, longitude, latitude)?;
     let code = write::finest(longitude, latitude);
     put(&code[..LENGTHS[level as usize - 1]], line, at)

@@ -2,17 +2,8 @@
 //! back where the walk then stands, or nothing where the character is not
 //! allowed, given those before it.
 
-use super::{west_of, PlaneCell, DEGREE, POLAR_INDEX, TURN};
+use super::{west_of, PlaneCell, Region, DEGREE, POLAR_INDEX, TURN};
 use crate::slips;
-
-#[derive(Clone, Copy, Debug, PartialEq, Eq)]
-enum Region {
-    Ordinary,
-    Pole,
-    Belt,
-    Disc,
-    Cap,
-}
 
 /// A cell (its west edge `start` eastward, its edge on the equator's side
 /// `near` as a latitude index) and the characters of the next level so far.
@@ -32,28 +23,8 @@ pub struct Walk {
 }
 
 /// Columns x rows of levels 2 to 10 away from the poles, and near them.
-const ORDINARY: [(i64, i64); 9] = [
-    (12, 8),
-    (2, 3),
-    (15, 10),
-    (15, 15),
-    (2, 2),
-    (8, 8),
-    (8, 8),
-    (8, 8),
-    (8, 8),
-];
-const POLAR: [(i64, i64); 9] = [
-    (0, 0),
-    (2, 2),
-    (15, 15),
-    (15, 15),
-    (2, 2),
-    (8, 8),
-    (8, 8),
-    (8, 8),
-    (8, 8),
-];
+const ORDINARY: [(i64, i64); 9] = [(12, 8), (2, 3), (15, 10), (15, 15), (2, 2), (8, 8), (8, 8), (8, 8), (8, 8)];
+const POLAR: [(i64, i64); 9] = [(0, 0), (2, 2), (15, 15), (15, 15), (2, 2), (8, 8), (8, 8), (8, 8), (8, 8)];
 
 fn number(character: u8) -> i64 {
     let lower = slips::on(slips::SMALL_LETTERS) && character.is_ascii_lowercase();
@@ -67,17 +38,7 @@ fn number(character: u8) -> i64 {
 
 impl Walk {
     pub fn start() -> Walk {
-        Walk {
-            region: Region::Ordinary,
-            north: true,
-            level: 0,
-            taken: 0,
-            held: 0,
-            start: 0,
-            width: 0,
-            near: 0,
-            height: 0,
-        }
+        Walk { region: Region::Ordinary, north: true, level: 0, taken: 0, held: 0, start: 0, width: 0, near: 0, height: 0 }
     }
 
     /// Takes one more character, if it is allowed here.
@@ -102,11 +63,7 @@ impl Walk {
             Region::Pole => self.pole(self.held, digit),
             Region::Cap => self.cap(digit),
             _ => {
-                let splits = if self.region == Region::Ordinary {
-                    &ORDINARY
-                } else {
-                    &POLAR
-                };
+                let splits = if self.region == Region::Ordinary { &ORDINARY } else { &POLAR };
                 let (columns, rows) = splits[self.level as usize - 1];
                 if single {
                     (digit < columns * rows).then(|| self.even(columns, rows, digit % 2, digit / 2))
@@ -120,11 +77,7 @@ impl Walk {
     }
 
     fn hold(self, digit: i64, below: i64) -> Option<Walk> {
-        let held = Walk {
-            taken: self.taken + 1,
-            held: self.held * 10 + digit,
-            ..self
-        };
+        let held = Walk { taken: self.taken + 1, held: self.held * 10 + digit, ..self };
         (digit < below).then_some(held)
     }
 
@@ -132,11 +85,7 @@ impl Walk {
     fn first_level(self, character: u8) -> Option<Walk> {
         let digit = number(character);
         match self.taken {
-            0 if character == b'N' || character == b'S' => Some(Walk {
-                taken: 1,
-                north: character == b'N',
-                ..self
-            }),
+            0 if character == b'N' || character == b'S' => Some(Walk { taken: 1, north: character == b'N', ..self }),
             0 => None,
             1 => self.hold(digit, 7),
             2 => self.hold(digit, if self.held == 6 { 1 } else { 10 }),
@@ -168,39 +117,18 @@ impl Walk {
     }
 
     fn next(self, region: Region, start: i64, width: i64, near: i64, height: i64) -> Walk {
-        Walk {
-            region,
-            level: self.level + 1,
-            taken: 0,
-            held: 0,
-            start,
-            width,
-            near,
-            height,
-            ..self
-        }
+        Walk { region, level: self.level + 1, taken: 0, held: 0, start, width, near, height, ..self }
     }
 
     fn even(self, columns: i64, rows: i64, column: i64, row: i64) -> Walk {
         let (width, height) = (self.width / columns, self.height / rows);
         let belt = self.region == Region::Belt;
         let disc = self.region == Region::Disc;
-        let eastward =
-            disc || self.start < TURN / 2 || (belt && slips::on(slips::BELT_COLUMNS_EASTWARD));
+        let eastward = disc || self.start < TURN / 2 || (belt && slips::on(slips::BELT_COLUMNS_EASTWARD));
         let from_pole = disc || (belt && slips::on(slips::BELT_ROWS_FROM_POLE));
-        let columns_west = if eastward {
-            column
-        } else {
-            columns - 1 - column
-        };
+        let columns_west = if eastward { column } else { columns - 1 - column };
         let rows_before = if from_pole { rows - 1 - row } else { row };
-        self.next(
-            self.region,
-            self.start + columns_west * width,
-            width,
-            self.near + rows_before * height,
-            height,
-        )
+        self.next(self.region, self.start + columns_west * width, width, self.near + rows_before * height, height)
     }
 
     /// Level 2 of N000 and S000.
@@ -211,9 +139,7 @@ impl Walk {
         let half = DEGREE / 2;
         let (odd, nearer) = (second % 2, second / 2);
         let sector = match first {
-            0 if second == 0 => {
-                return Some(self.next(Region::Cap, 0, TURN, self.near + 3 * half, half))
-            }
+            0 if second == 0 => return Some(self.next(Region::Cap, 0, TURN, self.near + 3 * half, half)),
             0 => {
                 let third = TURN / 3;
                 let start = (second - 1) * third;
@@ -253,11 +179,7 @@ impl Walk {
 
     /// The cell of the whole levels so far.
     pub fn cell(self) -> PlaneCell {
-        let south = if self.north {
-            self.near
-        } else {
-            -(self.near + self.height)
-        };
+        let south = if self.north { self.near } else { -(self.near + self.height) };
         let whole_turn = self.width == TURN && slips::on(slips::CAP_FROM_180);
         PlaneCell {
             level: self.level,

@@ -5,42 +5,14 @@ use super::{eastward, outward, DEGREE, POLAR_INDEX, TURN};
 use crate::slips;
 
 /// Place of each level's last character, and columns x rows, from level 10 up.
-const ORDINARY: [(usize, i64, i64); 9] = [
-    (19, 8, 8),
-    (17, 8, 8),
-    (15, 8, 8),
-    (13, 8, 8),
-    (11, 2, 2),
-    (10, 15, 15),
-    (8, 15, 10),
-    (6, 2, 3),
-    (5, 12, 8),
-];
+const ORDINARY: [(usize, i64, i64); 9] =
+    [(19, 8, 8), (17, 8, 8), (15, 8, 8), (13, 8, 8), (11, 2, 2), (10, 15, 15), (8, 15, 10), (6, 2, 3), (5, 12, 8)];
 
 /// The same for belt and disc cells, levels 10 to 3.
-const POLAR: [(usize, i64, i64); 8] = [
-    (19, 8, 8),
-    (17, 8, 8),
-    (15, 8, 8),
-    (13, 8, 8),
-    (11, 2, 2),
-    (10, 15, 15),
-    (8, 15, 15),
-    (6, 2, 2),
-];
+const POLAR: [(usize, i64, i64); 8] = [(19, 8, 8), (17, 8, 8), (15, 8, 8), (13, 8, 8), (11, 2, 2), (10, 15, 15), (8, 15, 15), (6, 2, 2)];
 
 /// Heights of the caps of levels 2 to 10, and the columns around each.
-const CAPS: [(i64, i64); 9] = [
-    (3_686_400, 3),
-    (1_843_200, 3),
-    (122_880, 15),
-    (8_192, 15),
-    (4_096, 2),
-    (512, 8),
-    (64, 8),
-    (8, 8),
-    (1, 8),
-];
+const CAPS: [(i64, i64); 9] = [(3_686_400, 3), (1_843_200, 3), (122_880, 15), (8_192, 15), (4_096, 2), (512, 8), (64, 8), (8, 8), (1, 8)];
 
 fn character(number: i64) -> u8 {
     b"0123456789ABCDEF"[(number & 15) as usize]
@@ -56,12 +28,7 @@ fn set(code: &mut [u8; 20], last: usize, column: i64, row: i64) {
 }
 
 /// Writes the digits of these levels from the finest; hands back what is left.
-fn digits(
-    code: &mut [u8; 20],
-    splits: &[(usize, i64, i64)],
-    mut across: i64,
-    mut along: i64,
-) -> (i64, i64) {
+fn digits(code: &mut [u8; 20], splits: &[(usize, i64, i64)], mut across: i64, mut along: i64) -> (i64, i64) {
     for &(last, columns, rows) in splits {
         set(code, last, across % columns, along % rows);
         across /= columns;
@@ -93,11 +60,7 @@ fn ordinary(code: &mut [u8; 20], longitude: i64, index: i64) {
         across = zone * 6 * DEGREE + (6 * DEGREE - 1 - across % (6 * DEGREE));
     }
     let (zones, row) = digits(code, &ORDINARY, across, index);
-    let zone = if longitude >= 0 {
-        31 + zones
-    } else {
-        30 - zones
-    };
+    let zone = if longitude >= 0 { 31 + zones } else { 30 - zones };
     code[1] = character(zone / 10);
     code[2] = character(zone % 10);
     let skipped = slips::on(slips::LETTER_I_SKIPPED) && row >= 8;
@@ -111,11 +74,7 @@ fn belt(code: &mut [u8; 20], eastward: i64, past_88: i64) {
     code[4] = character(first);
     code[5] = character(second + 2 * half);
     let from_west = eastward % (60 * DEGREE);
-    let across = if sector < 3 {
-        from_west
-    } else {
-        60 * DEGREE - 1 - from_west
-    };
+    let across = if sector < 3 { from_west } else { 60 * DEGREE - 1 - from_west };
     // 60° over 2 · 15 · 15 · 2 · 8 · 8 · 8 · 8 columns: 120 units each.
     digits(code, &POLAR, across / 120, along);
 }

@@ -9,10 +9,7 @@ use hailgully_tests::reference::{self, OFFSETS};
 use hailgully_tests::space;
 
 pub fn families() -> Vec<Family> {
-    let own = |name, rounds, round| Family {
-        name,
-        kind: Kind::Own(rounds, round),
-    };
+    let own = |name, rounds, round| Family { name, kind: Kind::Own(rounds, round) };
     vec![
         own("own check: plane codes against the lists", 200_000, planes),
         own("own check: space codes against the lists", 20_000, spaces),
@@ -20,25 +17,16 @@ pub fn families() -> Vec<Family> {
     ]
 }
 
-fn somewhere(run: &mut Run) -> (i64, i64) {
-    match run.random.below(3) {
-        0 => cases::ordinary(&mut run.random),
-        1 => cases::polar(&mut run.random),
-        _ => cases::near_edge(&mut run.random),
-    }
-}
-
 /// Tells a difference within the oracle, if `well` is false.
 fn own(run: &mut Run, well: bool, told: impl FnOnce() -> String) {
     run.tally.own_checks += 1;
     if !well {
-        run.tally
-            .difference(|| format!("the oracle itself: {}", told()));
+        run.tally.difference(|| format!("the oracle itself: {}", told()));
     }
 }
 
 fn planes(run: &mut Run) {
-    let (longitude, latitude) = somewhere(run);
+    let (longitude, latitude) = cases::anywhere(&mut run.random);
     let level = run.random.between(1, 10) as usize;
     let length = LENGTHS[level - 1];
     let mut code = plane::write::finest(longitude, latitude);
@@ -48,8 +36,7 @@ fn planes(run: &mut Run) {
         format!("level {level} {longitude} {latitude}: {other}, by the lists {one}")
     });
     same_reading(run, &listed, Some(cell));
-    let place = run.random.below(length as u64) as usize;
-    code[place] = cases::other_character(&mut run.random);
+    cases::damage(&mut run.random, &mut code[..length]);
     same_reading(run, &code[..length], None);
     let (code, length) = cases::walked_code(&mut run.random);
     same_reading(run, &code[..length], None);
@@ -68,7 +55,7 @@ fn same_reading(run: &mut Run, code: &[u8], cell: Option<plane::PlaneCell>) {
 /// height characters: "N or S, the sign, then for each level its plane
 /// characters followed by its height character or characters".
 fn spaces(run: &mut Run) {
-    let (longitude, latitude) = somewhere(run);
+    let (longitude, latitude) = cases::anywhere(&mut run.random);
     let layer = cases::layer(&mut run.random);
     let level = run.random.between(1, 10) as usize;
     let (flat, cell) = listing::code(level, longitude, latitude);
@@ -90,18 +77,15 @@ fn spaces(run: &mut Run) {
         format!("level {level} {longitude} {latitude} {layer}: {one}, by the lists {other}")
     });
     let read = space::read(&code);
-    let well = read.is_ok_and(|read| {
-        read.plane == cell
-            && i64::from(read.floor) == high.floor
-            && i64::from(read.thickness) == high.thickness
-    });
+    let well =
+        read.is_ok_and(|read| read.plane == cell && i64::from(read.floor) == high.floor && i64::from(read.thickness) == high.thickness);
     own(run, well, || format!("{}: {read:?}", show(&code)));
 }
 
 /// A reference read, done by walking cell by cell: from a square over the
 /// cell's edge to the next cell's square, by the lists.
 fn steps(run: &mut Run) {
-    let (longitude, latitude) = somewhere(run);
+    let (longitude, latitude) = cases::anywhere(&mut run.random);
     if plane::outward(latitude) >= POLAR_INDEX {
         return;
     }

@@ -1,9 +1,9 @@
 //! Cases of the reference writer and the reference reader.
 
-use super::{far_places, fit, fixed, other_length, random, Family};
+use super::{each_change, each_length, each_room, fit, fixed, part, random, read_about, Family};
 use crate::checks::Run;
 use hailgully_tests::cases::{self, wrap};
-use hailgully_tests::plane::{self, write::finest, DEGREE, LATITUDE, LENGTHS, POLAR_INDEX};
+use hailgully_tests::plane::{write::finest, DEGREE, LATITUDE, LENGTHS, POLAR_INDEX};
 use hailgully_tests::reference::OFFSETS;
 
 pub fn families() -> Vec<Family> {
@@ -34,25 +34,8 @@ const SIZES: [i64; 6] = [8_192, 4_096, 512, 64, 8, 1];
 fn corners() -> Vec<(i64, i64)> {
     let mut list = Vec::new();
     let half = 180 * DEGREE;
-    for longitude in [
-        0,
-        -1,
-        half - 1,
-        -half,
-        6 * DEGREE,
-        -6 * DEGREE - 1,
-        99 * DEGREE + 77,
-        -12_345,
-    ] {
-        for latitude in [
-            0,
-            -1,
-            POLAR_INDEX - 1,
-            -POLAR_INDEX,
-            4 * DEGREE,
-            -40 * DEGREE - 1,
-            555_555,
-        ] {
+    for longitude in [0, -1, half - 1, -half, 6 * DEGREE, -6 * DEGREE - 1, 99 * DEGREE + 77, -12_345] {
+        for latitude in [0, -1, POLAR_INDEX - 1, -POLAR_INDEX, 4 * DEGREE, -40 * DEGREE - 1, 555_555] {
             list.push((longitude, latitude));
         }
     }
@@ -76,7 +59,7 @@ fn with_offset(code: &[u8], hyphen: u8, east: u8, north: u8) -> ([u8; 23], usize
 fn offsets(run: &mut Run, piece: u64) {
     let level = piece as usize % 6 + 5;
     let (size, length) = (SIZES[level - 5], LENGTHS[level - 1]);
-    for corner in corners().into_iter().skip(piece as usize / 6).step_by(8) {
+    for corner in part(&corners(), piece / 6, 8) {
         for shift in [0, 3 * size, -5 * size] {
             let start = away(corner, size, shift / size, -shift / size);
             let base = finest(start.0, start.1);
@@ -101,52 +84,29 @@ fn lines(run: &mut Run, piece: u64) {
     let level = piece as usize % 6 + 5;
     let (size, length) = (SIZES[level - 5], LENGTHS[level - 1]);
     // The second half starts just below 88°, where N = 3 gets 12.
-    let start = if piece < 6 {
-        (5, 5)
-    } else {
-        (-5, POLAR_INDEX - 1)
-    };
+    let start = if piece < 6 { (5, 5) } else { (-5, POLAR_INDEX - 1) };
     let base = finest(start.0, start.1);
     for (east, north) in [(3, -2), (-7, 0), (9, 0), (1, -8)] {
         let there = away(start, size, east, north);
         let target = finest(there.0, there.1);
-        for line in 0..=40 {
-            for at in (0..=42).chain(far_places()) {
-                run.reference_write(&base[..length], &target[..length], line, at);
-            }
-        }
+        each_room(40, |line, at| run.reference_write(&base[..length], &target[..length], line, at));
     }
     for north in [b'3', b'B'] {
         let (code, whole) = with_offset(&base[..length], b'-', b'C', north);
-        for line in 0..=40 {
-            for at in (0..=42).chain(far_places()) {
-                run.reference_read(&code[..whole], line, at);
-            }
-        }
+        each_room(40, |line, at| run.reference_read(&code[..whole], line, at));
     }
 }
 
 fn changes(run: &mut Run, piece: u64) {
-    let places = cases::places_of_each_kind();
     let length = LENGTHS[piece as usize % 10];
-    for &(longitude, latitude) in places.iter().skip(piece as usize / 10).step_by(4) {
-        let base = finest(longitude, latitude);
-        let (code, whole) = with_offset(&base[..length], b'-', b'2', b'F');
-        for place in 0..whole {
-            for byte in 0..=255 {
-                let mut changed = code;
-                changed[place] = byte;
-                run.reference_read(&changed[..whole], 24, 0);
-            }
-        }
-        for place in 0..length {
-            for byte in 0..=255 {
-                let mut changed = base;
-                changed[place] = byte;
-                run.reference_write(&changed[..length], &base[..length], 24, 0);
-                run.reference_write(&base[..length], &changed[..length], 24, 0);
-            }
-        }
+    for (longitude, latitude) in part(&cases::places_of_each_kind(), piece / 10, 4) {
+        let base = &finest(longitude, latitude)[..length];
+        let (code, whole) = with_offset(base, b'-', b'2', b'F');
+        each_change(&code[..whole], |code| run.reference_read(code, 24, 0));
+        each_change(base, |changed| {
+            run.reference_write(changed, base, 24, 0);
+            run.reference_write(base, changed, 24, 0);
+        });
     }
 }
 
@@ -170,21 +130,17 @@ fn signs(run: &mut Run, piece: u64) {
 fn lengths(run: &mut Run, piece: u64) {
     let (longitude, latitude) = cases::places_of_each_kind()[piece as usize];
     let code = finest(longitude, latitude);
-    for fill in [b'0', b'-', b'A', b'N', 0] {
-        let mut long = [fill; 60];
-        long[..20].copy_from_slice(&code);
-        for length in 0..=60 {
-            run.reference_read(&long[..length], 24, 0);
-            if (3..=23).contains(&length) {
-                let (signed, whole) = with_offset(&code[..length - 3], b'-', b'1', b'A');
-                run.reference_read(&signed[..whole], 24, 0);
-            }
-            for other in [0, 4, 11, 13, 20] {
-                run.reference_write(&long[..length], &long[..other], 24, 0);
-                run.reference_write(&long[..other], &long[..length], 24, 0);
-            }
-        }
+    for length in 0..=20 {
+        let (signed, whole) = with_offset(&code[..length], b'-', b'1', b'A');
+        run.reference_read(&signed[..whole], 24, 0);
     }
+    each_length(&code, &[b'0', b'-', b'A', b'N', 0], |long| {
+        run.reference_read(long, 24, 0);
+        for other in [0, 4, 11, 13, 20] {
+            run.reference_write(long, &code[..other], 24, 0);
+            run.reference_write(&code[..other], long, 24, 0);
+        }
+    });
 }
 
 /// A square for a base: any ordinary one, a corner, or now and then a polar
@@ -224,16 +180,8 @@ fn read(run: &mut Run) {
     let base = finest(start.0, start.1);
     let (one, other) = (run.random.pick(OFFSETS), run.random.pick(OFFSETS));
     let (mut code, whole) = with_offset(&base[..length], b'-', one, other);
-    if run.random.one_in(3) {
-        let place = run.random.below(whole as u64) as usize;
-        code[place] = cases::other_character(&mut run.random);
-    }
     let (line, at) = fit(run, length);
-    run.reference_read(&code[..whole], line, at);
-    if run.random.one_in(8) {
-        let (bytes, whole) = other_length(run, &code[..whole]);
-        run.reference_read(&bytes[..whole], line, at);
-    }
+    read_about(run, &mut code[..whole], |run, code| run.reference_read(code, line, at));
 }
 
 /// Bases and targets of any level, of any damage.
@@ -246,21 +194,15 @@ fn refused(run: &mut Run) {
     };
     let there = match run.random.below(3) {
         0 => start,
-        1 => away(
-            start,
-            8,
-            run.random.between(-99, 99),
-            run.random.between(-99, 99),
-        ),
+        1 => away(start, 8, run.random.between(-99, 99), run.random.between(-99, 99)),
         _ => somewhere(run),
     };
     let mut codes = [[b'0'; 60]; 2];
     let mut sizes = [LENGTHS[level - 1], LENGTHS[other - 1]];
     for (at, square) in [start, there].into_iter().enumerate() {
-        codes[at][..20].copy_from_slice(&plane::write::finest(square.0, square.1));
+        codes[at][..20].copy_from_slice(&finest(square.0, square.1));
         if run.random.one_in(5) {
-            let place = run.random.below(sizes[at] as u64) as usize;
-            codes[at][place] = cases::other_character(&mut run.random);
+            cases::damage(&mut run.random, &mut codes[at][..sizes[at]]);
         }
         if run.random.one_in(8) {
             sizes[at] = run.random.below(40) as usize;

@@ -1,0 +1,90 @@
+//! The library's calls, each with its refusals in the document's order ("Orders"). What a run must meet is derived from this one table.
+
+#[derive(Clone, Copy, Debug, PartialEq, Eq)]
+pub enum Call {
+    PlaneWrite,
+    PlaneRead,
+    SpaceWrite,
+    SpaceRead,
+    ReferenceWrite,
+    ReferenceRead,
+    Arcseconds,
+    PlaneBox,
+}
+
+use Call::*;
+
+/// A refusal of a call: number and ordinal.
+pub type Named = (u32, u32);
+
+/// A refusal, and those before it in the order under which it has no meaning: a code without a level has no length that a line could lack, one
+/// that cannot be read has no cell.
+type Ordered = (Named, &'static [Named]);
+
+const READER: &[Ordered] = &[((6, 1), &[]), ((7, 1), &[])];
+
+impl Call {
+    pub const ALL: [Call; 8] = [PlaneWrite, PlaneRead, SpaceWrite, SpaceRead, ReferenceWrite, ReferenceRead, Arcseconds, PlaneBox];
+
+    pub fn name(self) -> &'static str {
+        match self {
+            PlaneWrite => "hg_plane_write",
+            PlaneRead => "hg_plane_read",
+            SpaceWrite => "hg_space_write",
+            SpaceRead => "hg_space_read",
+            ReferenceWrite => "hg_reference_write",
+            ReferenceRead => "hg_reference_read",
+            Arcseconds => "hg_arcseconds",
+            PlaneBox => "hg_plane_box",
+        }
+    }
+
+    fn ordered(self) -> &'static [Ordered] {
+        match self {
+            PlaneWrite => &[((1, 1), &[]), ((2, 1), &[]), ((3, 1), &[]), ((5, 1), &[(1, 1)])],
+            SpaceWrite => &[((1, 1), &[]), ((2, 1), &[]), ((3, 1), &[]), ((4, 1), &[]), ((5, 1), &[(1, 1)])],
+            PlaneRead | SpaceRead | PlaneBox => READER,
+            ReferenceWrite => &[
+                ((6, 1), &[]),
+                ((7, 1), &[]),
+                ((6, 2), &[]),
+                ((7, 2), &[]),
+                ((8, 1), &[]),
+                ((9, 1), &[(6, 1), (7, 1), (6, 2), (7, 2)]),
+                ((10, 1), &[(6, 1), (7, 1), (6, 2), (7, 2)]),
+                ((5, 1), &[(6, 1)]),
+            ],
+            ReferenceRead => &[((6, 1), &[]), ((7, 1), &[]), ((8, 1), &[(6, 1)]), ((12, 1), &[(6, 1), (7, 1)]), ((5, 1), &[(6, 1)])],
+            Arcseconds => &[((11, 1), &[]), ((2, 1), &[]), ((3, 1), &[])],
+        }
+    }
+
+    /// How many refusals the call has.
+    pub fn count(self) -> usize {
+        self.ordered().len()
+    }
+
+    /// The refusal at this place of the order.
+    pub fn refusal(self, place: usize) -> Named {
+        self.ordered()[place].0
+    }
+
+    /// The pairs of places at which two refusals can apply together; neighbours always can.
+    pub fn pairs(self) -> Vec<(usize, usize)> {
+        let order = self.ordered();
+        let together = |&(first, second): &(usize, usize)| {
+            let apart = order[second].1.contains(&order[first].0);
+            assert!(!apart || second > first + 1, "{self:?}: neighbours that cannot apply together");
+            !apart
+        };
+        let each = (0..order.len()).flat_map(|second| (0..second).map(move |first| (first, second)));
+        each.filter(together).collect()
+    }
+}
+
+pub fn words(named: Named) -> String {
+    match named {
+        (number, 2) => format!("{number}(2nd)"),
+        (number, _) => number.to_string(),
+    }
+}

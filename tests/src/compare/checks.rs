@@ -1,0 +1,273 @@
+//! One case of each call: the oracle and the library are asked the same, and every number and every lent byte is compared, of the codes too.
+
+use crate::calls::Call;
+use crate::lent::Lent;
+use crate::library;
+use crate::raw::HgWritten;
+use crate::regions;
+use crate::tally::Tally;
+use hailgully_tests::cases::Random;
+use hailgully_tests::plane::{self, within, write::finest, PlaneCell, LATITUDE, LENGTHS, LONGITUDE};
+use hailgully_tests::refusals::Refusal;
+use hailgully_tests::{arcseconds, reference, slips, space};
+use std::fmt::Debug;
+
+pub struct Run {
+    pub random: Random,
+    pub tally: Tally,
+}
+
+/// A code as text, with anything odd escaped.
+pub fn show(code: &[u8]) -> String {
+    let start = &code[..code.len().min(100)];
+    format!("\"{}\" ({} bytes)", start.escape_ascii(), code.len())
+}
+
+fn bits(applies: &[bool]) -> u32 {
+    let each = applies.iter().enumerate();
+    each.map(|(at, &applies)| u32::from(applies) << at).sum()
+}
+
+/// A code that is lent to be read, and its twin.
+struct Held {
+    lent: Lent,
+    twin: Lent,
+}
+
+impl Run {
+    pub fn new(seed: u64) -> Run {
+        Run { random: Random::new(seed), tally: Tally::default() }
+    }
+
+    /// Counts a case. The refusal given must be the first of the order that applies, found here without the oracle's own order.
+    fn count(&mut self, call: Call, apply: u32, own: Option<Refusal>) {
+        self.tally.calls[call as usize].count(apply);
+        let named = own.map(|refusal| (refusal.number, refusal.ordinal));
+        let first = match apply {
+            0 => None,
+            _ => Some(call.refusal(apply.trailing_zeros() as usize)),
+        };
+        if named != first && slips::current() == 0 {
+            self.tally.difference(|| format!("the oracle itself: {call:?} gives {named:?}, {first:?} comes first"));
+        }
+    }
+
+    /// Counts where an accepted plane code, or the plane part of a space code, lies.
+    fn accepted(&mut self, call: Call, code: &[u8]) {
+        if slips::current() == 0 {
+            self.tally.calls[call as usize].accepted(regions::slot(code));
+        }
+    }
+
+    fn hold(&mut self, code: &[u8]) -> Held {
+        let lent = Lent::code(&mut self.random, code);
+        Held { twin: lent.twin(), lent }
+    }
+
+    /// A code that was only to be read is as it was, and so are the bytes around it.
+    fn kept(&mut self, held: &Held, told: impl FnOnce() -> String) {
+        if let Some(place) = held.lent.difference(&held.twin) {
+            self.tally.difference(|| format!("{}\n  the library changed the byte at {place} of the code it was lent", told()));
+        }
+    }
+
+    /// Holds the library's answer against the oracle's.
+    fn answer<T, A>(&mut self, own: Result<T, Refusal>, got: A, told: impl FnOnce() -> String)
+    where
+        A: From<Result<T, Refusal>> + PartialEq + Debug,
+    {
+        let expected = A::from(own);
+        if expected != got {
+            self.tally.difference(|| format!("{}\n  oracle  {expected:?}\n  library {got:?}", told()));
+        }
+    }
+
+    /// Asks a reader of both.
+    fn reader<T, A>(&mut self, call: Call, code: &[u8], own: Result<T, Refusal>, library: fn(&mut [u8]) -> A) -> A
+    where
+        A: From<Result<T, Refusal>> + PartialEq + Debug + Copy,
+    {
+        let told = || format!("{} {}", call.name(), show(code));
+        let mut held = self.hold(code);
+        let got = library(held.lent.bytes());
+        self.kept(&held, told);
+        self.answer(own, got, told);
+        got
+    }
+
+    /// Asks a writer of both, on two copies of the same lent memory.
+    fn writer(
+        &mut self,
+        length: usize,
+        own: impl FnOnce(&mut [u8]) -> Result<usize, Refusal>,
+        library: impl FnOnce(&mut [u8]) -> HgWritten,
+        told: impl Fn() -> String,
+    ) -> Result<usize, Refusal> {
+        let mut mine = Lent::line(&mut self.random, length);
+        let mut theirs = mine.twin();
+        let answer = own(mine.bytes());
+        let got = library(theirs.bytes());
+        self.answer(answer, got, &told);
+        if let Some(place) = mine.difference(&theirs) {
+            self.tally.difference(|| {
+                let (one, other) = (show(mine.bytes()), show(theirs.bytes()));
+                format!("{}\n  oracle line  {one}\n  library line {other}\n  the first other byte is at {place}", told())
+            });
+        }
+        answer
+    }
+
+    pub fn plane_write(&mut self, level: i64, east: i64, north: i64, length: usize, at: usize) {
+        let own = self.writer(
+            length,
+            |line| plane::write(level, east, north, line, at),
+            |line| library::plane_write(level, east, north, line, at),
+            || format!("hg_plane_write level {level} longitude {east} latitude {north} line of {length} at {at}"),
+        );
+        let known = within(level, (1, 10));
+        let room = length.saturating_sub(at);
+        let apply = bits(&[!known, !within(east, LONGITUDE), !within(north, LATITUDE), known && room < LENGTHS[(level - 1) as usize]]);
+        self.count(Call::PlaneWrite, apply, own.err());
+        if let Ok(length) = own {
+            self.accepted(Call::PlaneWrite, &finest(east, north)[..length]);
+        }
+    }
+
+    pub fn plane_read(&mut self, code: &[u8]) {
+        let own = plane::read(code);
+        self.reader(Call::PlaneRead, code, own, library::plane_read);
+        self.count(Call::PlaneRead, reader_bits(code, own.err()), own.err());
+        if own.is_ok() {
+            self.accepted(Call::PlaneRead, code);
+        }
+    }
+
+    pub fn space_write(&mut self, level: i64, (east, north): (i64, i64), layer: i64, length: usize, at: usize) {
+        let own = self.writer(
+            length,
+            |line| space::write(level, east, north, layer, line, at),
+            |line| library::space_write(level, east, north, layer, line, at),
+            || format!("hg_space_write level {level} longitude {east} latitude {north} layer {layer} line of {length} at {at}"),
+        );
+        let known = within(level, (1, 10));
+        let room = length.saturating_sub(at);
+        let apply = bits(&[
+            !known,
+            !within(east, LONGITUDE),
+            !within(north, LATITUDE),
+            !within(layer, space::LAYER),
+            known && room < space::LENGTHS[(level - 1) as usize],
+        ]);
+        self.count(Call::SpaceWrite, apply, own.err());
+        if own.is_ok() {
+            self.accepted_space(Call::SpaceWrite, &finest(east, north)[..LENGTHS[level as usize - 1]], layer < 0);
+        }
+    }
+
+    pub fn space_read(&mut self, code: &[u8]) {
+        let own = space::read(code);
+        self.reader(Call::SpaceRead, code, own, library::space_read);
+        let six = space::level_of(code.len()).is_none();
+        let seven = if six { space::first_bad(code).is_some() } else { own.is_err() };
+        self.count(Call::SpaceRead, bits(&[six, seven]), own.err());
+        if let Ok(cell) = own {
+            let (flat, length) = space::plane_part(code);
+            self.accepted_space(Call::SpaceRead, &flat[..length], cell.floor < 0);
+        }
+    }
+
+    /// The same of a space code, with its sign.
+    fn accepted_space(&mut self, call: Call, flat: &[u8], below_ground: bool) {
+        self.accepted(call, flat);
+        if let Some(level) = plane::level_of(flat.len()) {
+            self.tally.calls[call as usize].accepted(regions::sign_slot(below_ground, level as usize));
+        }
+    }
+
+    pub fn reference_write(&mut self, base: &[u8], target: &[u8], length: usize, at: usize) {
+        let told = || format!("hg_reference_write {} to {} line of {length} at {at}", show(base), show(target));
+        let (mut first, mut second) = (self.hold(base), self.hold(target));
+        let own = self.writer(
+            length,
+            |line| reference::write(base, target, line, at),
+            |line| library::reference_write(first.lent.bytes(), second.lent.bytes(), line, at),
+            told,
+        );
+        self.kept(&first, told);
+        self.kept(&second, told);
+        let (from, to) = (plane::read(base), plane::read(target));
+        let mut apply = reader_bits(base, from.err()) | reader_bits(target, to.err()) << 2;
+        let eight = from.as_ref().is_ok_and(reference::unfit) || to.as_ref().is_ok_and(reference::unfit);
+        apply |= u32::from(eight) << 4;
+        if let (Ok(from), Ok(to)) = (from, to) {
+            let far = reference::offsets(&from, &to).is_none() && (from.level == to.level || apart(&from, &to));
+            apply |= u32::from(from.level != to.level) << 5 | u32::from(far) << 6;
+        }
+        let short = length.saturating_sub(at) < base.len() + 3;
+        apply |= u32::from(short && plane::level_of(base.len()).is_some()) << 7;
+        self.count(Call::ReferenceWrite, apply, own.err());
+        if own.is_ok() {
+            self.accepted(Call::ReferenceWrite, base);
+        }
+    }
+
+    pub fn reference_read(&mut self, code: &[u8], length: usize, at: usize) {
+        let told = || format!("hg_reference_read {} line of {length} at {at}", show(code));
+        let mut held = self.hold(code);
+        let own =
+            self.writer(length, |line| reference::read(code, line, at), |line| library::reference_read(held.lent.bytes(), line, at), told);
+        self.kept(&held, told);
+        let base = &code[..code.len().saturating_sub(3)];
+        let six = plane::level_of(base.len()).is_none();
+        let parts = reference::parts(code);
+        let seven = parts.is_err_and(|refusal| refusal.number == 7);
+        let hidden = six && plane::walk::whole(base).is_err();
+        let eight = plane::read(base).as_ref().is_ok_and(reference::unfit);
+        let twelve = parts.is_ok_and(|(base, _, north)| reference::reaches_pole(&base, north));
+        let five = !six && length.saturating_sub(at) < base.len();
+        self.count(Call::ReferenceRead, bits(&[six, seven || hidden, eight, twelve, five]), own.err());
+        if own.is_ok() {
+            self.accepted(Call::ReferenceRead, base);
+        }
+    }
+
+    pub fn arcseconds(&mut self, longitude: u64, latitude: u64) {
+        let own = arcseconds::arcseconds(longitude, latitude);
+        self.answer(own, library::arcseconds(longitude, latitude), || {
+            let (east, north) = (f64::from_bits(longitude), f64::from_bits(latitude));
+            format!("hg_arcseconds {east:e} ({longitude:#x}) {north:e} ({latitude:#x})")
+        });
+        let nan = |bits| arcseconds::reading(bits) == arcseconds::Reading::NotANumber;
+        let out = |bits, range| !nan(bits) && arcseconds::one(bits, range).is_none();
+        let apply = bits(&[nan(longitude) || nan(latitude), out(longitude, LONGITUDE), out(latitude, LATITUDE)]);
+        self.count(Call::Arcseconds, apply, own.err());
+    }
+
+    pub fn plane_box(&mut self, code: &[u8]) {
+        let own = arcseconds::plane_box(code);
+        let got = self.reader(Call::PlaneBox, code, own, library::plane_box);
+        self.count(Call::PlaneBox, reader_bits(code, own.err()), own.err());
+        // "The box's west and south read back as the same units."
+        if own.is_ok() {
+            self.accepted(Call::PlaneBox, code);
+            let [west, south, _, _] = got.edges();
+            self.arcseconds(west, south);
+        }
+    }
+}
+
+/// Whether 6 and whether 7 applies to a plane code, given its refusal.
+fn reader_bits(code: &[u8], own: Option<Refusal>) -> u32 {
+    let six = plane::level_of(code.len()).is_none();
+    let seven = if six { plane::walk::whole(code).is_err() } else { own.is_some() };
+    bits(&[six, seven])
+}
+
+/// Cells of two levels that lie more than seven cells of either size apart.
+fn apart(one: &PlaneCell, other: &PlaneCell) -> bool {
+    let height = i64::from(one.height.max(other.height));
+    let width = i64::from(one.width.max(other.width));
+    let north = (i64::from(one.south) - i64::from(other.south)).abs();
+    let east = (i64::from(one.west) - i64::from(other.west)).abs();
+    north > 8 * height || east.min(plane::TURN - east) > 8 * width
+}

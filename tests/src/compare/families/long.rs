@@ -1,0 +1,81 @@
+//! Lengths and places that would be taken for others if they were cut to fewer bits, or took a sign: for every call, around 2^7 to 2^32.
+
+use super::{fixed, Family};
+use crate::checks::Run;
+use hailgully_tests::cases;
+use hailgully_tests::plane::{write, LENGTHS};
+use hailgully_tests::space;
+
+pub fn families() -> Vec<Family> {
+    let pieces = 16 * BITS.len() as u64;
+    vec![fixed("long: lines", pieces, lines), fixed("long: codes", pieces, codes)]
+}
+
+/// The first two of them are those at which a cut to 8 bits, or to a signed number of 8 bits, shows; and so on.
+const BITS: [u32; 6] = [7, 8, 15, 16, 31, 32];
+
+/// Around what number a piece goes, and at which square. Where memory is huge one square will do.
+fn around(piece: u64) -> Option<(usize, (i64, i64))> {
+    let bits = BITS[piece as usize % BITS.len()];
+    let square = piece as usize / BITS.len();
+    (bits <= 16 || square == 0).then(|| (1 << bits, cases::places_of_each_kind()[square]))
+}
+
+/// Lines with just enough room, or one byte less, at places around the number; lines of a little more than the number; places near 2^64.
+fn rooms(near: usize, need: usize, mut ask: impl FnMut(usize, usize)) {
+    for at in [near - need, near - 1, near, near + 1, near + 30] {
+        ask(at + need, at);
+        ask(at + need - 1, at);
+    }
+    for at in [0, usize::MAX, usize::MAX - need, usize::MAX - need + 1, near << 31, 1 << 63] {
+        ask(near + 1, at);
+    }
+}
+
+fn lines(run: &mut Run, piece: u64) {
+    let Some((near, (longitude, latitude))) = around(piece) else { return };
+    for (level, need) in (1..).zip(LENGTHS) {
+        rooms(near, need, |length, at| run.plane_write(level, longitude, latitude, length, at));
+    }
+    for (level, need) in (1..).zip(space::LENGTHS) {
+        rooms(near, need, |length, at| run.space_write(level, (longitude, latitude), -7, length, at));
+    }
+    let (base, target) = (write::finest(5, 5), write::finest(5, -3));
+    for need in &LENGTHS[4..] {
+        let (base, target) = (&base[..*need], &target[..*need]);
+        let code = [base, b"-1A"].concat();
+        rooms(near, need + 3, |length, at| run.reference_write(base, target, length, at));
+        rooms(near, *need, |length, at| run.reference_read(&code, length, at));
+    }
+}
+
+/// A code that goes on for so many bytes more: zeros, and where memory is not huge anything.
+fn longer(code: &[u8], by: usize, fill: u8) -> Vec<u8> {
+    let mut long = vec![0; code.len() + by];
+    if by <= 1 << 18 {
+        long.fill(fill);
+    }
+    long[..code.len()].copy_from_slice(code);
+    long
+}
+
+fn codes(run: &mut Run, piece: u64) {
+    let Some((near, square)) = around(piece) else { return };
+    let times = if near <= 1 << 16 { 3 } else { 1 };
+    let (flat, tall) = (write::finest(square.0, square.1), space::finest(square, -7));
+    let base = write::finest(5, 5);
+    for by in (1..=times).map(|times| times * near) {
+        let fill = b"0-"[by / near % 2];
+        for (&length, tall_length) in LENGTHS.iter().zip(space::LENGTHS) {
+            let long = longer(&flat[..length], by, fill);
+            run.plane_read(&long);
+            run.plane_box(&long);
+            run.space_read(&longer(&tall[..tall_length], by, fill));
+            run.reference_read(&longer(&[&base[..length], b"-1A"].concat(), by, fill), 24, 0);
+            let long = longer(&base[..length], by, fill);
+            run.reference_write(&long, &base[..11], 24, 0);
+            run.reference_write(&base[..11], &long, 24, 0);
+            run.reference_write(&long, &long, 24, 0);
+        }
+    }
+}

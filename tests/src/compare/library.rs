@@ -1,0 +1,128 @@
+//! The library's calls on lent slices, and what each should return for the oracle's answer.
+
+use crate::faults::{change, cut};
+use crate::raw::*;
+use hailgully_tests::plane::PlaneCell;
+use hailgully_tests::refusals::Refusal;
+use hailgully_tests::space::SpaceCell;
+
+// In each of these the pointer and the length come from one slice, so the library gets memory that it may read, or write, for the time of the
+// call. Codes too are lent from slices that may be written: only so can be seen whether they were.
+
+pub fn plane_write(level: i64, east: i64, north: i64, line: &mut [u8], at: usize) -> HgWritten {
+    let (length, at) = (cut("hg_plane_write length", line.len()), cut("hg_plane_write at", at));
+    let got = unsafe { hg_plane_write(level, east, north, line.as_mut_ptr(), length, at) };
+    change("hg_plane_write line", line);
+    got
+}
+
+pub fn plane_read(code: &mut [u8]) -> HgPlaneCell {
+    let length = cut("hg_plane_read length", code.len());
+    let got = unsafe { hg_plane_read(code.as_mut_ptr(), length) };
+    change("hg_plane_read code", code);
+    got
+}
+
+pub fn space_write(level: i64, east: i64, north: i64, layer: i64, line: &mut [u8], at: usize) -> HgWritten {
+    let (length, at) = (cut("hg_space_write length", line.len()), cut("hg_space_write at", at));
+    let got = unsafe { hg_space_write(level, east, north, layer, line.as_mut_ptr(), length, at) };
+    change("hg_space_write line", line);
+    got
+}
+
+pub fn space_read(code: &mut [u8]) -> HgSpaceCell {
+    let length = cut("hg_space_read length", code.len());
+    let got = unsafe { hg_space_read(code.as_mut_ptr(), length) };
+    change("hg_space_read code", code);
+    got
+}
+
+pub fn reference_write(base: &mut [u8], target: &mut [u8], line: &mut [u8], at: usize) -> HgWritten {
+    let base_length = cut("hg_reference_write base_length", base.len());
+    let target_length = cut("hg_reference_write target_length", target.len());
+    let (length, at) = (cut("hg_reference_write length", line.len()), cut("hg_reference_write at", at));
+    let (from, to, into) = (base.as_mut_ptr(), target.as_mut_ptr(), line.as_mut_ptr());
+    let got = unsafe { hg_reference_write(from, base_length, to, target_length, into, length, at) };
+    change("hg_reference_write base", base);
+    change("hg_reference_write target", target);
+    change("hg_reference_write line", line);
+    got
+}
+
+pub fn reference_read(code: &mut [u8], line: &mut [u8], at: usize) -> HgWritten {
+    let code_length = cut("hg_reference_read code_length", code.len());
+    let (length, at) = (cut("hg_reference_read length", line.len()), cut("hg_reference_read at", at));
+    let got = unsafe { hg_reference_read(code.as_mut_ptr(), code_length, line.as_mut_ptr(), length, at) };
+    change("hg_reference_read code", code);
+    change("hg_reference_read line", line);
+    got
+}
+
+pub fn arcseconds(longitude: u64, latitude: u64) -> HgUnits {
+    unsafe { hg_arcseconds(f64::from_bits(longitude), f64::from_bits(latitude)) }
+}
+
+pub fn plane_box(code: &mut [u8]) -> HgBox {
+    let length = cut("hg_plane_box length", code.len());
+    let got = unsafe { hg_plane_box(code.as_mut_ptr(), length) };
+    change("hg_plane_box code", code);
+    got
+}
+
+impl From<Refusal> for HgRefusal {
+    fn from(own: Refusal) -> HgRefusal {
+        HgRefusal { number: own.number, ordinal: own.ordinal, place: own.place }
+    }
+}
+
+/// Makes a record of the oracle's answer, or of its refusal with every other field 0.
+macro_rules! answers {
+    ($record:ident, $own:ty, |$given:ident| $made:expr) => {
+        impl From<Result<$own, Refusal>> for $record {
+            fn from(own: Result<$own, Refusal>) -> $record {
+                match own {
+                    Ok($given) => $made,
+                    Err(refusal) => $record { refusal: refusal.into(), ..$record::default() },
+                }
+            }
+        }
+    };
+}
+
+answers!(HgWritten, usize, |length| HgWritten { length: length as u64, ..HgWritten::default() });
+answers!(HgUnits, (i32, i32), |units| HgUnits { longitude: units.0, latitude: units.1, ..HgUnits::default() });
+answers!(HgPlaneCell, PlaneCell, |cell| HgPlaneCell {
+    level: cell.level,
+    west: cell.west,
+    south: cell.south,
+    width: cell.width,
+    height: cell.height,
+    ..HgPlaneCell::default()
+});
+answers!(HgSpaceCell, SpaceCell, |cell| HgSpaceCell {
+    level: cell.plane.level,
+    west: cell.plane.west,
+    south: cell.plane.south,
+    width: cell.plane.width,
+    height: cell.plane.height,
+    floor: cell.floor,
+    thickness: cell.thickness,
+    ..HgSpaceCell::default()
+});
+answers!(HgBox, [u64; 4], |edges| {
+    let [west, south, width, height] = edges.map(f64::from_bits);
+    HgBox { west, south, width, height, ..HgBox::default() }
+});
+
+/// By their bits, so that +0.0 and -0.0 differ.
+impl PartialEq for HgBox {
+    fn eq(&self, other: &HgBox) -> bool {
+        self.refusal == other.refusal && self.edges() == other.edges()
+    }
+}
+
+impl HgBox {
+    pub fn edges(&self) -> [u64; 4] {
+        [self.west, self.south, self.width, self.height].map(f64::to_bits)
+    }
+}
