@@ -1,12 +1,18 @@
-/* Every call on lines and codes that are lent at exactly their size, each in a block of its own, so that valgrind sees any read or write outside them.
+/* Every call on lines and codes that are lent at exactly their size, each between two pages that nobody may touch: against the page behind it or
+ * against the page before it, in turn. A code that is lent for reading lies in a page that nobody may write. A call that reads or writes outside what
+ * it was lent, or writes into a code, ends the program.
  *
- *     cc -I ../target/hailgully bounds.c ../target/hailgully/libhailgully.a -o bounds && valgrind --error-exitcode=1 ./bounds
+ *     cc -I ../target/hailgully bounds.c ../target/hailgully/libhailgully.a -o bounds && ./bounds
  *
- * Prints how many calls were made and how many of them were refused.
+ * Prints how many calls were made and how many of them were refused. With the word 'outside' or 'code' it makes that fault itself, and must not come
+ * to its end.
  */
+#define _DEFAULT_SOURCE
 #include <stdio.h>
 #include <stdlib.h>
 #include <string.h>
+#include <sys/mman.h>
+#include <unistd.h>
 
 #include "hailgully.h"
 
@@ -29,26 +35,45 @@ static void count(hg_refusal r) {
     refused += r.number != 0;
 }
 
-/* A block of exactly n bytes with the first of them; malloc(0) may be null, so the least is one byte, of which none is lent. */
-static uint8_t *block(const uint8_t *bytes, size_t n) {
-    uint8_t *b = malloc(n ? n : 1);
-    if (!b) exit(2);
+/* Pages for what is lent: a code for reading, and a line. */
+enum { CODE, LINE, ARENAS };
+static uint8_t *pages[ARENAS];
+static size_t page;
+
+static void need(int good, const char *what) {
+    if (good) return;
+    perror(what);
+    exit(2);
+}
+
+static void set_up(void) {
+    page = (size_t)sysconf(_SC_PAGESIZE);
+    for (int i = 0; i < ARENAS; i++) {
+        uint8_t *p = mmap(NULL, 3 * page, PROT_NONE, MAP_PRIVATE | MAP_ANONYMOUS, -1, 0);
+        need(p != MAP_FAILED, "mmap");
+        pages[i] = p + page;
+    }
+}
+
+/* n bytes at an edge of their page, filled with what is given or with dots; a code may then only be read. */
+static uint8_t *lend(int arena, const uint8_t *bytes, size_t n) {
+    uint8_t *b = dice() % 2 ? pages[arena] + page - n : pages[arena];
+    need(mprotect(pages[arena], page, PROT_READ | PROT_WRITE) == 0, "mprotect");
     memset(b, '.', n);
     if (bytes) memcpy(b, bytes, n);
+    if (arena == CODE) need(mprotect(pages[arena], page, PROT_READ) == 0, "mprotect");
     return b;
 }
 
 static void readers(const uint8_t *code, size_t n) {
-    uint8_t *c = block(code, n);
+    uint8_t *c = lend(CODE, code, n);
     count(hg_plane_read(c, n).refusal);
     count(hg_space_read(c, n).refusal);
     count(hg_plane_box(c, n).refusal);
     size_t room = (size_t)between(0, 24);
-    uint8_t *line = block(NULL, room);
+    uint8_t *line = lend(LINE, NULL, room);
     count(hg_reference_read(c, n, line, room, (size_t)between(0, 26)).refusal);
     count(hg_reference_write(c, n, c, n, line, room, (size_t)between(0, 26)).refusal);
-    free(line);
-    free(c);
 }
 
 static void writers(int64_t level, int64_t longitude, int64_t latitude, int64_t layer) {
@@ -69,15 +94,17 @@ static void writers(int64_t level, int64_t longitude, int64_t latitude, int64_t 
         readers(code, (size_t)between(0, 40));
     }
     for (size_t room = 0; room <= 33; room += 1 + dice() % 5) {
-        uint8_t *line = block(NULL, room);
+        uint8_t *line = lend(LINE, NULL, room);
         size_t at = dice() % 8 ? (size_t)between(0, 34) : SIZE_MAX - (size_t)between(0, 40);
         count(hg_plane_write(level, longitude, latitude, line, room, at).refusal);
         count(hg_space_write(level, longitude, latitude, layer, line, room, at).refusal);
-        free(line);
     }
 }
 
-int main(void) {
+int main(int words, char **word) {
+    set_up();
+    if (words > 1 && strcmp(word[1], "outside") == 0) hg_plane_read(lend(CODE, NULL, page) + page - 3, 4);
+    if (words > 1 && strcmp(word[1], "code") == 0) hg_plane_write(1, 0, 0, lend(CODE, NULL, 4), 4, 0);
     for (int i = 0; i < 2000; i++) {
         int polar = dice() % 3 == 0;
         int64_t latitude = polar ? between(648806400, 663551999) : between(-664000000, 664000000);
