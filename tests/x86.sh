@@ -5,7 +5,7 @@
 export CC=cc RUN= NATIVE=yes
 if [ "$(uname -m)" != x86_64 ]; then
   NATIVE=no CC=x86_64-linux-gnu-gcc RUN=qemu-x86_64
-  export RUSTC=/usr/bin/rustc CARGO_BUILD_TARGET=x86_64-unknown-linux-gnu
+  export RUSTC=/usr/bin/rustc RUSTDOC=/usr/bin/rustdoc CARGO_BUILD_TARGET=x86_64-unknown-linux-gnu
   export CARGO_TARGET_X86_64_UNKNOWN_LINUX_GNU_LINKER=$CC CARGO_TARGET_X86_64_UNKNOWN_LINUX_GNU_RUNNER=$RUN
   if ! [ -d /usr/lib/rustlib/x86_64-unknown-linux-gnu ] || ! command -v "$CC" "$RUN" "$RUSTC" >/dev/null; then
     log=$(mktemp)

@@ -47,7 +47,8 @@ impl Svg {
 
     fn save(self, folder: &Path, name: &str) {
         let (w, h) = (self.width, self.height);
-        let head = format!(r#"<svg xmlns="http://www.w3.org/2000/svg" viewBox="0 0 {w} {h}" width="{w}" height="{h}" font-family="sans-serif">"#);
+        let head =
+            format!(r#"<svg xmlns="http://www.w3.org/2000/svg" viewBox="0 0 {w} {h}" width="{w}" height="{h}" font-family="sans-serif">"#);
         let text = format!("{head}\n<rect width=\"{w}\" height=\"{h}\" fill=\"white\"/>\n{}</svg>\n", self.body);
         let path = folder.join(name);
         std::fs::write(&path, text).unwrap_or_else(|e| panic!("{}: {e}", path.display()));
@@ -213,6 +214,13 @@ fn main() {
     poles(folder, "poles-2.svg", "The polar cells of level 2: the cap 00, the disc 01 to 03, the belt 10 to 33", second, 15.0);
     poles(folder, "poles-3.svg", "The polar cells of level 3: the last three characters of each code", third, 9.5);
     cap(folder, "cap-4.svg", "Level 4 of a cap: row 0 is the new cap, 00; rows 1 to 14 have 15 columns of 24°", "N000000", 2, 8.0);
-    cap(folder, "cap-6.svg", "Level 6 of a cap: 0 is the new cap; 2 and 3 are the outer row's halves; 1 never occurs", "N0000000000", 1, 16.0);
+    cap(
+        folder,
+        "cap-6.svg",
+        "Level 6 of a cap: 0 is the new cap; 2 and 3 are the outer row's halves; 1 never occurs",
+        "N0000000000",
+        1,
+        16.0,
+    );
     layers(folder);
 }
