@@ -1,30 +1,19 @@
-/* Hailgully: the codes of the BeiDou grid (GB/T 39409-2020), from position to code and from code to cell.
+/* Hailgully: the codes of the BeiDou grid (GB/T 39409-2020), from position to code and from code to cell. For x86-64 Linux.
  *
- * A unit is 1/2048 arc-second; one degree is 7,372,800 units. A position names a unit square by its west and south corner.
- *
- *   number      least            greatest
- *   longitude   -1,327,104,000   1,327,103,999
- *   latitude      -663,552,000     663,551,999
- *   layer       -1,887,436,800   1,887,436,799
- *   level                    1              10
+ * A unit is 1/2048 arc-second; one degree is 7,372,800 units. A position names a unit square by its west and south corner. The ranges of
+ * longitude, latitude, layer and level are the constants below. docs/GRID.md has the rules, with pictures.
  *
  * Every call takes any numbers and any bytes, and answers with a result or with exactly one refusal. Nothing is clipped.
- * A refusal's number says why (0: none, the call succeeded):
+ * A refusal's number says why (the enum below). Its place is the first bad character, counted from 0, for HG_CHARACTER, else 0. Its ordinal is 2
+ * where HG_LENGTH or HG_CHARACTER speaks of a second code, else 1. On a refusal every other field is 0, and no byte that was lent is changed.
+ * On success the refusal's three numbers are 0.
  *
- *    1  level outside 1 to 10                  7  a character is not allowed at its place, given those before it
- *    2  longitude outside its range            8  a reference base or target is below level 5 or polar
- *    3  latitude outside its range             9  base and target levels differ
- *    4  layer outside its range               10  either offset is beyond 7
- *    5  from the place given, the line lacks  11  either arc-second reading is not a number
- *       bytes for the whole code              12  a reference read leads to 88 degrees or nearer a pole
- *    6  a code's length is none of its kind
+ * A line is lent as its first byte and its length; a writer writes from the place `at` on, and the bytes before it and after the code stay. No zero
+ * byte is written after a code: its length is what the call answers.
  *
- * Its place is the first bad character, counted from 0, for refusal 7, else 0. Its ordinal is 2 for a second code's 6 or 7, else 1.
- * On a refusal every other field is 0, and no byte that was lent is changed. On success the refusal's three numbers are 0.
- *
- * A line is lent as its first byte and its length; a writer writes from the place `at` on, and the bytes before it and after the code stay.
- * No call allocates, keeps a pointer, or reads or writes outside what it was lent. Calls may be made from any thread. No pointer is null, also
- * where its length is 0, and a line overlaps no code that the same call reads.
+ * What is asked of the caller: a pointer is good for as many bytes as the length beside it says, and is not null, also where that length is 0; a line
+ * overlaps no code that the same call reads. No call allocates, keeps a pointer, or reads or writes outside what it was lent. Calls may be made from any
+ * thread at once.
  */
 #ifndef HAILGULLY_H
 #define HAILGULLY_H
@@ -36,17 +25,70 @@
 extern "C" {
 #endif
 
-typedef struct { uint32_t number, ordinal; uint64_t place; } hg_refusal; /* number 0: none */
-typedef struct { hg_refusal refusal; uint64_t length; } hg_written;
-typedef struct { hg_refusal refusal; uint32_t level; int32_t west, south; uint32_t width, height; } hg_plane_cell;
-typedef struct { hg_refusal refusal; uint32_t level; int32_t west, south; uint32_t width, height; int32_t floor; uint32_t thickness; } hg_space_cell;
-typedef struct { hg_refusal refusal; int32_t longitude, latitude; } hg_units;
-typedef struct { hg_refusal refusal; double west, south, width, height; } hg_box;
+#define HG_VERSION_MAJOR 0
+#define HG_VERSION_MINOR 2
+
+/* A refusal's number. */
+enum {
+    HG_NONE = 0,            /* the call succeeded */
+    HG_LEVEL = 1,           /* level outside 1 to 10 */
+    HG_LONGITUDE = 2,       /* longitude outside its range (either infinity too) */
+    HG_LATITUDE = 3,        /* latitude outside its range (either infinity too) */
+    HG_LAYER = 4,           /* layer outside its range */
+    HG_ROOM = 5,            /* from the place given, the line lacks bytes for the whole code; a place past the end counts as none */
+    HG_LENGTH = 6,          /* a code's length is none of its kind */
+    HG_CHARACTER = 7,       /* a character is not allowed at its place, given those before it */
+    HG_REFERENCE_CELL = 8,  /* a reference base or target is below level 5 or polar */
+    HG_LEVELS_DIFFER = 9,   /* base and target levels differ */
+    HG_OFFSET = 10,         /* either offset is beyond 7 */
+    HG_NOT_A_NUMBER = 11,   /* either arc-second reading is not a number */
+    HG_POLAR_TARGET = 12    /* a reference read leads to 88 degrees or nearer a pole */
+};
+
+/* Ranges, in units and layers; each end belongs to its range. */
+#define HG_DEGREE INT64_C(7372800)
+#define HG_LONGITUDE_LEAST INT64_C(-1327104000)
+#define HG_LONGITUDE_GREATEST INT64_C(1327103999)
+#define HG_LATITUDE_LEAST INT64_C(-663552000)
+#define HG_LATITUDE_GREATEST INT64_C(663551999)
+#define HG_LAYER_LEAST INT64_C(-1887436800)
+#define HG_LAYER_GREATEST INT64_C(1887436799)
+#define HG_LEVEL_LEAST INT64_C(1)
+#define HG_LEVEL_GREATEST INT64_C(10)
 
 /* The longest plane code, space code and reference code. */
 #define HG_PLANE_MOST 20
 #define HG_SPACE_MOST 32
 #define HG_REFERENCE_MOST 23
+
+typedef struct { uint32_t number, ordinal; uint64_t place; } hg_refusal;
+typedef struct { hg_refusal refusal; uint64_t length; } hg_written;
+/* These two end with four bytes that fill them up to a multiple of 8; nothing is said of what stands there. */
+typedef struct { hg_refusal refusal; uint32_t level; int32_t west, south; uint32_t width, height; } hg_plane_cell;
+typedef struct { hg_refusal refusal; uint32_t level; int32_t west, south; uint32_t width, height; int32_t floor; uint32_t thickness; } hg_space_cell;
+typedef struct { hg_refusal refusal; int32_t longitude, latitude; } hg_units;
+typedef struct { hg_refusal refusal; double west, south, width, height; } hg_box;
+
+/* The layout that the library has: a compiler that lays the structs out otherwise is told here. */
+#if defined(__cplusplus) && __cplusplus >= 201103L
+#define HG_LAID_OUT(test) static_assert(test, "the library has another layout")
+#elif defined(__STDC_VERSION__) && __STDC_VERSION__ >= 201112L
+#define HG_LAID_OUT(test) _Static_assert(test, "the library has another layout")
+#endif
+#ifdef HG_LAID_OUT
+HG_LAID_OUT(sizeof(void *) == 8 && sizeof(size_t) == 8 && sizeof(double) == 8);
+HG_LAID_OUT(sizeof(hg_refusal) == 16 && offsetof(hg_refusal, ordinal) == 4 && offsetof(hg_refusal, place) == 8);
+HG_LAID_OUT(sizeof(hg_written) == 24 && offsetof(hg_written, length) == 16);
+HG_LAID_OUT(sizeof(hg_plane_cell) == 40 && offsetof(hg_plane_cell, level) == 16 && offsetof(hg_plane_cell, west) == 20);
+HG_LAID_OUT(offsetof(hg_plane_cell, south) == 24 && offsetof(hg_plane_cell, width) == 28 && offsetof(hg_plane_cell, height) == 32);
+HG_LAID_OUT(sizeof(hg_space_cell) == 48 && offsetof(hg_space_cell, level) == 16 && offsetof(hg_space_cell, west) == 20);
+HG_LAID_OUT(offsetof(hg_space_cell, south) == 24 && offsetof(hg_space_cell, width) == 28 && offsetof(hg_space_cell, height) == 32);
+HG_LAID_OUT(offsetof(hg_space_cell, floor) == 36 && offsetof(hg_space_cell, thickness) == 40);
+HG_LAID_OUT(sizeof(hg_units) == 24 && offsetof(hg_units, longitude) == 16 && offsetof(hg_units, latitude) == 20);
+HG_LAID_OUT(sizeof(hg_box) == 48 && offsetof(hg_box, west) == 16 && offsetof(hg_box, south) == 24 && offsetof(hg_box, width) == 32);
+HG_LAID_OUT(offsetof(hg_box, height) == 40);
+#undef HG_LAID_OUT
+#endif
 
 /* Writes the plane code of a level for a position. Refusals, in order: 1, 2, 3, 5.
  * Example: level 8 at (857549557, 294861578) is N50J47539B825534, 16 bytes. */

@@ -9,40 +9,99 @@
 //! assert_eq!(hailgully::plane_write(8, 857_549_557, 294_861_578, &mut line, 0), Ok(16));
 //! assert_eq!(&line, b"N50J47539B825534");
 //! ```
+#![warn(missing_docs)]
+#![forbid(unsafe_code)]
 
-mod ffi;
-
+use hailgully_raw as raw;
 use std::fmt;
 
-/// Why a call was refused.
-#[derive(Clone, Copy, Debug, PartialEq, Eq)]
+/// Why a call was refused, in the words of the table of refusals; the discriminant is the number there.
+#[derive(Clone, Copy, Debug, PartialEq, Eq, Hash)]
+#[non_exhaustive]
+pub enum Reason {
+    /// level outside 1 to 10
+    Level = 1,
+    /// longitude outside its range (either infinity too)
+    Longitude = 2,
+    /// latitude outside its range (either infinity too)
+    Latitude = 3,
+    /// layer outside its range
+    Layer = 4,
+    /// from the place given, the line lacks bytes for the whole code
+    Room = 5,
+    /// a code's length is none of its kind
+    Length = 6,
+    /// a character is not allowed at its place, given those before it
+    Character = 7,
+    /// a reference base or target is below level 5 or polar
+    ReferenceCell = 8,
+    /// base and target levels differ
+    LevelsDiffer = 9,
+    /// either offset is beyond 7
+    Offset = 10,
+    /// either arc-second reading is not a number
+    NotANumber = 11,
+    /// a reference read leads to 88 degrees or nearer a pole
+    PolarTarget = 12,
+}
+
+/// Each reason with its words: place n - 1 has number n.
+const REASONS: [(Reason, &str); 12] = [
+    (Reason::Level, "level outside 1 to 10"),
+    (Reason::Longitude, "longitude outside its range"),
+    (Reason::Latitude, "latitude outside its range"),
+    (Reason::Layer, "layer outside its range"),
+    (Reason::Room, "from the place given, the line lacks bytes for the whole code"),
+    (Reason::Length, "a code's length is none of its kind"),
+    (Reason::Character, "a character is not allowed at its place, given those before it"),
+    (Reason::ReferenceCell, "a reference base or target is below level 5 or polar"),
+    (Reason::LevelsDiffer, "base and target levels differ"),
+    (Reason::Offset, "either offset is beyond 7"),
+    (Reason::NotANumber, "either arc-second reading is not a number"),
+    (Reason::PolarTarget, "a reference read leads to 88 degrees or nearer a pole"),
+];
+
+/// A refusal: no result, and no byte that was lent was changed.
+///
+/// ```
+/// use hailgully::Reason;
+/// let refusal = hailgully::plane_read(b"N61A").unwrap_err();
+/// assert_eq!((refusal.reason, refusal.number(), refusal.place), (Reason::Character, 7, Some(2)));
+/// assert_eq!(refusal.to_string(), "refused 7 at place 2: a character is not allowed at its place, given those before it");
+/// ```
+#[derive(Clone, Copy, Debug, PartialEq, Eq, Hash)]
 pub struct Refusal {
-    /// The number in the table of refusals, 1 to 12.
-    pub number: u32,
-    /// For 7 the place of the first bad character, counted from 0; else 0.
-    pub place: u64,
-    /// 2 for a second code's 6 or 7, else 1.
+    /// Why.
+    pub reason: Reason,
+    /// The place of the first bad character, counted from 0, for [`Reason::Character`]; no other reason has one.
+    pub place: Option<usize>,
+    /// 2 where a length or a character of a second code is meant, else 1.
     pub ordinal: u32,
+}
+
+impl Refusal {
+    /// The number in the table of refusals.
+    pub fn number(&self) -> u32 {
+        self.reason as u32
+    }
+
+    fn of(refusal: raw::HgRefusal) -> Refusal {
+        let (reason, _) = REASONS[refusal.number as usize - 1];
+        let place = (reason == Reason::Character).then_some(refusal.place as usize);
+        Refusal { reason, place, ordinal: refusal.ordinal }
+    }
 }
 
 impl fmt::Display for Refusal {
     fn fmt(&self, f: &mut fmt::Formatter<'_>) -> fmt::Result {
-        let why = match self.number {
-            1 => "level outside 1 to 10",
-            2 => "longitude outside its range",
-            3 => "latitude outside its range",
-            4 => "layer outside its range",
-            5 => "the line lacks bytes for the whole code",
-            6 => "a code's length is none of its kind",
-            7 => "a character is not allowed at its place",
-            8 => "a reference base or target is below level 5 or polar",
-            9 => "base and target levels differ",
-            10 => "an offset is beyond 7",
-            11 => "an arc-second reading is not a number",
-            12 => "a reference leads to 88 degrees or nearer a pole",
-            _ => "refused",
-        };
-        write!(f, "refused {} at {} of code {}: {why}", self.number, self.place, self.ordinal)
+        write!(f, "refused {}", self.number())?;
+        if let Some(place) = self.place {
+            write!(f, " at place {place}")?;
+        }
+        if self.ordinal == 2 {
+            write!(f, " of the second code")?;
+        }
+        write!(f, ": {}", REASONS[self.number() as usize - 1].1)
     }
 }
 
@@ -51,45 +110,59 @@ impl std::error::Error for Refusal {}
 /// A plane cell: west and south edge, width and height, in units.
 #[derive(Clone, Copy, Debug, PartialEq, Eq)]
 pub struct PlaneCell {
+    /// 1 to 10.
     pub level: u32,
+    /// The west edge, in the longitude range; the cell runs eastward from it, past 180 degrees if need be.
     pub west: i32,
+    /// The south edge.
     pub south: i32,
+    /// How many units wide it is.
     pub width: u32,
+    /// How many units high it is.
     pub height: u32,
 }
 
 /// A space cell: a plane cell with its lowest layer and how many layers it has.
 #[derive(Clone, Copy, Debug, PartialEq, Eq)]
 pub struct SpaceCell {
+    /// Its plane cell.
     pub plane: PlaneCell,
+    /// Its lowest layer.
     pub floor: i32,
+    /// How many layers it has.
     pub thickness: u32,
 }
 
 /// A position in whole units.
 #[derive(Clone, Copy, Debug, PartialEq, Eq)]
 pub struct Units {
+    /// Units of 1/2048 arc-second east of Greenwich, below 0 west of it.
     pub longitude: i32,
+    /// Units of 1/2048 arc-second north of the equator, below 0 south of it.
     pub latitude: i32,
 }
 
 /// A plane cell in arc-seconds, exactly.
 #[derive(Clone, Copy, Debug, PartialEq)]
 pub struct ArcBox {
+    /// The west edge.
     pub west: f64,
+    /// The south edge.
     pub south: f64,
+    /// How wide it is.
     pub width: f64,
+    /// How high it is.
     pub height: f64,
 }
 
-fn answer<T>(refusal: ffi::Refusal, value: T) -> Result<T, Refusal> {
+fn answer<T>(refusal: raw::HgRefusal, value: T) -> Result<T, Refusal> {
     match refusal.number {
         0 => Ok(value),
-        number => Err(Refusal { number, place: refusal.place, ordinal: refusal.ordinal }),
+        _ => Err(Refusal::of(refusal)),
     }
 }
 
-fn written(w: ffi::Written) -> Result<usize, Refusal> {
+fn written(w: raw::HgWritten) -> Result<usize, Refusal> {
     answer(w.refusal, w.length as usize)
 }
 
@@ -99,10 +172,10 @@ fn written(w: ffi::Written) -> Result<usize, Refusal> {
 /// let mut line = *b"<.........>";
 /// assert_eq!(hailgully::plane_write(2, -44_236_800, 0, &mut line, 1), Ok(6));
 /// assert_eq!(&line, b"<N30AB0...>");
-/// assert_eq!(hailgully::plane_write(2, 1_327_104_000, 0, &mut line, 1).unwrap_err().number, 2);
+/// assert_eq!(hailgully::plane_write(2, 1_327_104_000, 0, &mut line, 1).unwrap_err().reason, hailgully::Reason::Longitude);
 /// ```
 pub fn plane_write(level: i64, longitude: i64, latitude: i64, line: &mut [u8], at: usize) -> Result<usize, Refusal> {
-    written(unsafe { ffi::hg_plane_write(level, longitude, latitude, line.as_mut_ptr(), line.len(), at) })
+    written(raw::lent::plane_write(level, longitude, latitude, line, at))
 }
 
 /// Reads a plane code. Refusals, in order: 6, 7.
@@ -111,10 +184,10 @@ pub fn plane_write(level: i64, longitude: i64, latitude: i64, line: &mut [u8], a
 /// let cell = hailgully::plane_read(b"N31A").unwrap();
 /// assert_eq!((cell.level, cell.west, cell.south, cell.width, cell.height), (1, 0, 0, 44_236_800, 29_491_200));
 /// let refusal = hailgully::plane_read(b"N61A").unwrap_err();
-/// assert_eq!((refusal.number, refusal.place), (7, 2));
+/// assert_eq!((refusal.number(), refusal.place), (7, Some(2)));
 /// ```
 pub fn plane_read(code: &[u8]) -> Result<PlaneCell, Refusal> {
-    let c = unsafe { ffi::hg_plane_read(code.as_ptr(), code.len()) };
+    let c = raw::lent::plane_read(code);
     answer(c.refusal, PlaneCell { level: c.level, west: c.west, south: c.south, width: c.width, height: c.height })
 }
 
@@ -126,7 +199,7 @@ pub fn plane_read(code: &[u8]) -> Result<PlaneCell, Refusal> {
 /// assert_eq!(&line, b"N131A63");
 /// ```
 pub fn space_write(level: i64, longitude: i64, latitude: i64, layer: i64, line: &mut [u8], at: usize) -> Result<usize, Refusal> {
-    written(unsafe { ffi::hg_space_write(level, longitude, latitude, layer, line.as_mut_ptr(), line.len(), at) })
+    written(raw::lent::space_write(level, longitude, latitude, layer, line, at))
 }
 
 /// Reads a space code; the floor is the lower face. Refusals, in order: 6, 7.
@@ -136,7 +209,7 @@ pub fn space_write(level: i64, longitude: i64, latitude: i64, layer: i64, line: 
 /// assert_eq!((cell.floor, cell.thickness), (-29_491_200, 29_491_200));
 /// ```
 pub fn space_read(code: &[u8]) -> Result<SpaceCell, Refusal> {
-    let c = unsafe { ffi::hg_space_read(code.as_ptr(), code.len()) };
+    let c = raw::lent::space_read(code);
     let plane = PlaneCell { level: c.level, west: c.west, south: c.south, width: c.width, height: c.height };
     answer(c.refusal, SpaceCell { plane, floor: c.floor, thickness: c.thickness })
 }
@@ -150,9 +223,7 @@ pub fn space_read(code: &[u8]) -> Result<SpaceCell, Refusal> {
 /// assert_eq!(&line, b"N50J475492E-10");
 /// ```
 pub fn reference_write(base: &[u8], target: &[u8], line: &mut [u8], at: usize) -> Result<usize, Refusal> {
-    written(unsafe {
-        ffi::hg_reference_write(base.as_ptr(), base.len(), target.as_ptr(), target.len(), line.as_mut_ptr(), line.len(), at)
-    })
+    written(raw::lent::reference_write(base, target, line, at))
 }
 
 /// Reads a reference code and writes the plane code of its target; the number of bytes. Refusals, in order: 6, 7, 8, 12, 5.
@@ -163,7 +234,7 @@ pub fn reference_write(base: &[u8], target: &[u8], line: &mut [u8], at: usize) -
 /// assert_eq!(&line, b"S31A0000000");
 /// ```
 pub fn reference_read(code: &[u8], line: &mut [u8], at: usize) -> Result<usize, Refusal> {
-    written(unsafe { ffi::hg_reference_read(code.as_ptr(), code.len(), line.as_mut_ptr(), line.len(), at) })
+    written(raw::lent::reference_read(code, line, at))
 }
 
 /// Arc-seconds to whole units: the greatest unit not above each reading. Refusals, in order: 11, 2, 3.
@@ -172,7 +243,7 @@ pub fn reference_read(code: &[u8], line: &mut [u8], at: usize) -> Result<usize, 
 /// assert_eq!(hailgully::arcseconds(-0.0001, 0.5), Ok(hailgully::Units { longitude: -1, latitude: 1024 }));
 /// ```
 pub fn arcseconds(longitude: f64, latitude: f64) -> Result<Units, Refusal> {
-    let u = unsafe { ffi::hg_arcseconds(longitude, latitude) };
+    let u = raw::lent::arcseconds(longitude, latitude);
     answer(u.refusal, Units { longitude: u.longitude, latitude: u.latitude })
 }
 
@@ -183,6 +254,6 @@ pub fn arcseconds(longitude: f64, latitude: f64) -> Result<Units, Refusal> {
 /// assert_eq!((b.west, b.south, b.width, b.height), (0.0, 0.0, 21_600.0, 14_400.0));
 /// ```
 pub fn plane_box(code: &[u8]) -> Result<ArcBox, Refusal> {
-    let b = unsafe { ffi::hg_plane_box(code.as_ptr(), code.len()) };
+    let b = raw::lent::plane_box(code);
     answer(b.refusal, ArcBox { west: b.west, south: b.south, width: b.width, height: b.height })
 }

@@ -2,10 +2,10 @@
 
 use crate::calls::Call;
 use crate::lent::Lent;
-use crate::library;
-use crate::raw::HgWritten;
+use crate::library::{self, Record};
 use crate::regions;
 use crate::tally::Tally;
+use hailgully_raw::HgWritten;
 use hailgully_tests::cases::Random;
 use hailgully_tests::plane::{self, within, write::finest, PlaneCell, LATITUDE, LENGTHS, LONGITUDE};
 use hailgully_tests::refusals::Refusal;
@@ -74,9 +74,9 @@ impl Run {
     /// Holds the library's answer against the oracle's.
     fn answer<T, A>(&mut self, own: Result<T, Refusal>, got: A, told: impl FnOnce() -> String)
     where
-        A: From<Result<T, Refusal>> + PartialEq + Debug,
+        A: Record<T> + PartialEq + Debug,
     {
-        let expected = A::from(own);
+        let expected = A::of(own);
         if expected != got {
             self.tally.difference(|| format!("{}\n  oracle  {expected:?}\n  library {got:?}", told()));
         }
@@ -85,7 +85,7 @@ impl Run {
     /// Asks a reader of both.
     fn reader<T, A>(&mut self, call: Call, code: &[u8], own: Result<T, Refusal>, library: fn(&mut [u8]) -> A) -> A
     where
-        A: From<Result<T, Refusal>> + PartialEq + Debug + Copy,
+        A: Record<T> + PartialEq + Debug + Copy,
     {
         let told = || format!("{} {}", call.name(), show(code));
         let mut held = self.hold(code);
@@ -250,7 +250,7 @@ impl Run {
         // "The box's west and south read back as the same units."
         if own.is_ok() {
             self.accepted(Call::PlaneBox, code);
-            let [west, south, _, _] = got.edges();
+            let [west, south, _, _] = library::edges(&got);
             self.arcseconds(west, south);
         }
     }

@@ -1,7 +1,7 @@
 //! The library's calls on lent slices, and what each should return for the oracle's answer.
 
 use crate::faults::{change, cut};
-use crate::raw::*;
+use hailgully_raw::*;
 use hailgully_tests::plane::PlaneCell;
 use hailgully_tests::refusals::Refusal;
 use hailgully_tests::space::SpaceCell;
@@ -69,20 +69,19 @@ pub fn plane_box(code: &mut [u8]) -> HgBox {
     got
 }
 
-impl From<Refusal> for HgRefusal {
-    fn from(own: Refusal) -> HgRefusal {
-        HgRefusal { number: own.number, ordinal: own.ordinal, place: own.place }
-    }
+/// A record that the library should return, made of the oracle's answer.
+pub trait Record<T> {
+    fn of(own: Result<T, Refusal>) -> Self;
 }
 
 /// Makes a record of the oracle's answer, or of its refusal with every other field 0.
 macro_rules! answers {
     ($record:ident, $own:ty, |$given:ident| $made:expr) => {
-        impl From<Result<$own, Refusal>> for $record {
-            fn from(own: Result<$own, Refusal>) -> $record {
+        impl Record<$own> for $record {
+            fn of(own: Result<$own, Refusal>) -> $record {
                 match own {
                     Ok($given) => $made,
-                    Err(refusal) => $record { refusal: refusal.into(), ..$record::default() },
+                    Err(Refusal { number, ordinal, place }) => $record { refusal: HgRefusal { number, ordinal, place }, ..$record::default() },
                 }
             }
         }
@@ -114,15 +113,7 @@ answers!(HgBox, [u64; 4], |edges| {
     HgBox { west, south, width, height, ..HgBox::default() }
 });
 
-/// By their bits, so that +0.0 and -0.0 differ.
-impl PartialEq for HgBox {
-    fn eq(&self, other: &HgBox) -> bool {
-        self.refusal == other.refusal && self.edges() == other.edges()
-    }
-}
-
-impl HgBox {
-    pub fn edges(&self) -> [u64; 4] {
-        [self.west, self.south, self.width, self.height].map(f64::to_bits)
-    }
+/// A box's four numbers by their bits.
+pub fn edges(of: &HgBox) -> [u64; 4] {
+    [of.west, of.south, of.width, of.height].map(f64::to_bits)
 }

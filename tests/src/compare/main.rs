@@ -9,7 +9,6 @@ mod faults;
 mod lent;
 mod library;
 mod options;
-mod raw;
 mod regions;
 mod tally;
 mod work;

@@ -1,5 +1,4 @@
-//! Links libhailgully.a from HAILGULLY_LIB_DIR, or else from target/hailgully at the repository's root, which ./build fills. The wrapper, the
-//! tests and the bench have this same file.
+//! Links libhailgully.a from HAILGULLY_LIB_DIR, or else from target/hailgully at the repository's root, which ./build fills.
 
 use std::path::PathBuf;
 
