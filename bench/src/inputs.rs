@@ -86,7 +86,7 @@ impl Code {
 
     /// The code with one character changed, or now and then one left off.
     pub fn spoilt(mut self, dice: &mut Dice) -> Code {
-        const ALPHABET: &[u8] = b"0123456789ABCDEFGNSVWn-\x00";
+        const ALPHABET: &[u8] = b"0123456789ABCDEFGHNSVWn-\x00";
         let place = dice.between(0, self.length as i64) as usize;
         if place == self.length {
             self.length -= 1;

@@ -10,11 +10,13 @@ mod arcseconds;
 mod ffi;
 mod inputs;
 mod plain;
+mod plain_reference;
 mod plain_space;
 mod plane;
 mod reference;
 mod space;
 mod table;
+mod tight;
 
 use inputs::Dice;
 use table::Row;

@@ -7,7 +7,16 @@ pub const REFUSED_POLAR: u32 = 99;
 #[derive(Clone, Copy, PartialEq, Debug)]
 pub struct Refusal {
     pub number: u32,
+    pub ordinal: u32,
     pub place: u64,
+}
+
+impl Refusal {
+    /// About the first code, or the only one.
+    #[inline(always)]
+    pub fn new(number: u32, place: u64) -> Refusal {
+        Refusal { number, ordinal: 1, place }
+    }
 }
 
 #[derive(Clone, Copy, PartialEq, Debug)]
@@ -38,7 +47,7 @@ pub struct Units {
 pub fn same<T>(ours: &crate::ffi::Refusal, other: Result<T, Refusal>, equal: impl FnOnce(T)) {
     match other {
         Err(r) if r.number == REFUSED_POLAR => {}
-        Err(r) => assert_eq!((ours.number, ours.place, ours.ordinal), (r.number, r.place, 1)),
+        Err(r) => assert_eq!((ours.number, ours.place, ours.ordinal), (r.number, r.place, r.ordinal)),
         Ok(found) => {
             assert_eq!((ours.number, ours.place, ours.ordinal), (0, 0, 0));
             equal(found);
@@ -46,12 +55,12 @@ pub fn same<T>(ours: &crate::ffi::Refusal, other: Result<T, Refusal>, equal: imp
     }
 }
 
-const LENGTHS: [usize; 11] = [0, 4, 6, 7, 9, 11, 12, 14, 16, 18, 20];
+pub const LENGTHS: [usize; 11] = [0, 4, 6, 7, 9, 11, 12, 14, 16, 18, 20];
 pub const WIDTHS: [u32; 11] = [0, 44_236_800, 3_686_400, 1_843_200, 122_880, 8_192, 4_096, 512, 64, 8, 1];
 const HEIGHTS: [u32; 11] = [0, 29_491_200, 3_686_400, 1_228_800, 122_880, 8_192, 4_096, 512, 64, 8, 1];
 
-fn refuse(number: u32) -> Result<usize, Refusal> {
-    Err(Refusal { number, place: 0 })
+pub fn refuse<T>(number: u32) -> Result<T, Refusal> {
+    Err(Refusal::new(number, 0))
 }
 
 #[inline(always)]
@@ -66,7 +75,7 @@ pub fn hex(v: u32) -> u8 {
 
 /// The plane code's characters after the checks; `out` has room for the level's length.
 #[inline(always)]
-fn put(level: usize, west: bool, south: bool, x: u32, y: u32, out: &mut [u8]) {
+pub fn put(level: usize, west: bool, south: bool, x: u32, y: u32, out: &mut [u8]) {
     let out = &mut out[..LENGTHS[level]];
     let c = x / 44_236_800;
     let z = if west { 30 - c } else { 31 + c };
@@ -172,7 +181,7 @@ macro_rules! digit {
     ($code:ident, $place:expr, $bound:expr) => {{
         let v = if $bound <= 10 { $code[$place].wrapping_sub(48) as u32 } else { value($code[$place]) };
         if v >= $bound {
-            return Err(Refusal { number: 7, place: $place as u64 });
+            return Err(Refusal::new(7, $place as u64));
         }
         v
     }};
@@ -252,29 +261,30 @@ pub fn cell(level: usize, west: bool, south: bool, x: u32, y: u32) -> Cell {
     }
 }
 
-#[inline(never)]
-pub fn plane_read(code: &[u8]) -> Result<Cell, Refusal> {
+/// The reader, compiled into each of its callers.
+#[inline(always)]
+pub fn read(code: &[u8]) -> Result<Cell, Refusal> {
     let level = level_of(code.len());
     if level == 0 {
-        return Err(Refusal { number: 6, place: 0 });
+        return Err(Refusal::new(6, 0));
     }
     let south = match code[0] {
         b'N' => false,
         b'S' => true,
-        _ => return Err(Refusal { number: 7, place: 0 }),
+        _ => return Err(Refusal::new(7, 0)),
     };
     let tens = digit!(code, 1, 7);
     let ones = digit!(code, 2, 10);
     let z = 10 * tens + ones;
     if z > 60 {
-        return Err(Refusal { number: 7, place: 2 });
+        return Err(Refusal::new(7, 2));
     }
     if z == 0 {
-        return Err(Refusal { number: REFUSED_POLAR, place: 0 });
+        return Err(Refusal::new(REFUSED_POLAR, 0));
     }
     let row = digit!(code, 3, 32);
     if row < 10 {
-        return Err(Refusal { number: 7, place: 3 });
+        return Err(Refusal::new(7, 3));
     }
     let west = z < 31;
     let mut x = if west { 30 - z } else { z - 31 } * 44_236_800;
@@ -284,8 +294,13 @@ pub fn plane_read(code: &[u8]) -> Result<Cell, Refusal> {
 }
 
 #[inline(never)]
+pub fn plane_read(code: &[u8]) -> Result<Cell, Refusal> {
+    read(code)
+}
+
+#[inline(never)]
 pub fn plane_box(code: &[u8]) -> Result<Box, Refusal> {
-    let cell = plane_read(code)?;
+    let cell = read(code)?;
     Ok(Box {
         west: cell.west as f64 / 2048.0,
         south: cell.south as f64 / 2048.0,
@@ -294,18 +309,25 @@ pub fn plane_box(code: &[u8]) -> Result<Box, Refusal> {
     })
 }
 
+/// The greatest whole number not above: a cast, and one less where the cast went up. A call of `floor` is slower where the processor's own may not
+/// be counted on.
+#[inline(always)]
+fn floor(v: f64) -> i32 {
+    let n = v as i32;
+    n - (n as f64 > v) as i32
+}
+
 #[inline(never)]
 pub fn arcseconds(longitude: f64, latitude: f64) -> Result<Units, Refusal> {
     if longitude.is_nan() || latitude.is_nan() {
-        return Err(Refusal { number: 11, place: 0 });
+        return refuse(11);
     }
-    let x = (longitude * 2048.0).floor();
+    let (x, y) = (longitude * 2048.0, latitude * 2048.0);
     if !(-1_327_104_000.0..1_327_104_000.0).contains(&x) {
-        return Err(Refusal { number: 2, place: 0 });
+        return refuse(2);
     }
-    let y = (latitude * 2048.0).floor();
     if !(-663_552_000.0..663_552_000.0).contains(&y) {
-        return Err(Refusal { number: 3, place: 0 });
+        return refuse(3);
     }
-    Ok(Units { longitude: x as i32, latitude: y as i32 })
+    Ok(Units { longitude: floor(x), latitude: floor(y) })
 }

@@ -14,7 +14,7 @@ const THICKNESSES: [u32; 11] = [0, 29_491_200, 3_686_400, 1_843_200, 122_880, 8_
 const DEPTH: u32 = 1_887_436_800;
 
 fn refuse(number: u32) -> Result<usize, Refusal> {
-    Err(Refusal { number, place: 0 })
+    Err(Refusal::new(number, 0))
 }
 
 /// A position as its quarter and its outward indices; h is the layer counted from 0 or from the lowest one.
@@ -149,7 +149,7 @@ macro_rules! digit {
     ($code:ident, $place:expr, $bound:expr) => {{
         let v = if $bound <= 10 { $code[$place].wrapping_sub(48) as u32 } else { value($code[$place]) };
         if v >= $bound {
-            return Err(Refusal { number: 7, place: $place as u64 });
+            return Err(Refusal::new(7, $place as u64));
         }
         v
     }};
@@ -160,7 +160,7 @@ macro_rules! two_digits {
     ($code:ident, $place:expr, $greatest:expr) => {{
         let v = 10 * digit!($code, $place, 7) + digit!($code, $place + 1, 10);
         if v > $greatest {
-            return Err(Refusal { number: 7, place: $place as u64 + 1 });
+            return Err(Refusal::new(7, $place as u64 + 1));
         }
         v
     }};
@@ -239,21 +239,21 @@ fn rest(code: &[u8], level: usize, mut s: Sum) -> Result<Sum, Refusal> {
 pub fn read(code: &[u8]) -> Result<Cell, Refusal> {
     let level = level_of(code.len());
     if level == 0 {
-        return Err(Refusal { number: 6, place: 0 });
+        return Err(Refusal::new(6, 0));
     }
     let south = match code[0] {
         b'N' => false,
         b'S' => true,
-        _ => return Err(Refusal { number: 7, place: 0 }),
+        _ => return Err(Refusal::new(7, 0)),
     };
     let below = digit!(code, 1, 2) == 1;
     let z = two_digits!(code, 2, 60);
     if z == 0 {
-        return Err(Refusal { number: REFUSED_POLAR, place: 0 });
+        return Err(Refusal::new(REFUSED_POLAR, 0));
     }
     let row = digit!(code, 4, 32);
     if row < 10 {
-        return Err(Refusal { number: 7, place: 4 });
+        return Err(Refusal::new(7, 4));
     }
     let west = z < 31;
     let x = if west { 30 - z } else { z - 31 } * 44_236_800;

@@ -2,7 +2,7 @@
 
 use crate::inputs::{each, many, Code, Dice, Position};
 use crate::table::{Pass, Row};
-use crate::{ffi, plain};
+use crate::{ffi, plain, tight};
 use std::hint::black_box;
 
 pub fn write_ours(at: &'static [Position]) -> Pass {
@@ -39,6 +39,14 @@ fn read_plain(codes: &'static [Code]) -> Pass {
     })
 }
 
+fn read_tight(codes: &'static [Code]) -> Pass {
+    Box::new(move || {
+        for c in codes {
+            black_box(&tight::read(c.text()));
+        }
+    })
+}
+
 fn box_ours(codes: &'static [Code]) -> Pass {
     Box::new(move || {
         for c in codes {
@@ -69,6 +77,7 @@ fn same_read(c: &Code) {
     let ours = ffi::plane_read(c.text());
     let cell = plain::Cell { level: ours.level, west: ours.west, south: ours.south, width: ours.width, height: ours.height };
     plain::same(&ours.refusal, plain::plane_read(c.text()), |other| assert_eq!(cell, other));
+    plain::same(&ours.refusal, tight::read(c.text()), |other| assert_eq!(cell, other));
     let ours = ffi::plane_box(c.text());
     let cell = plain::Box { west: ours.west, south: ours.south, width: ours.width, height: ours.height };
     plain::same(&ours.refusal, plain::plane_box(c.text()), |other| assert_eq!(cell, other));
@@ -97,6 +106,8 @@ pub fn rows(dice: &mut Dice) -> Vec<Row> {
         let bar = (level == 10).then_some(1.25);
         rows.push(Row::plain(format!("plane write, level {level}"), write_ours(at), write_plain(at), bar));
         rows.push(Row::plain(format!("plane read, level {level}"), read_ours(codes), read_plain(codes), bar));
+        let tight = format!("plane read, level {level}, tight");
+        rows.push(Row::new(tight, read_ours(codes), vec![read_tight(codes)], "tight Rust", None));
     }
     rows.push(Row::plain("plane box, level 10", box_ours(ten_codes), box_plain(ten_codes), Some(1.5)));
     rows.extend(coarser(ten, ten_codes));
