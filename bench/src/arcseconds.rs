@@ -1,8 +1,9 @@
 //! Arc-second readings to whole units.
 
 use crate::inputs::{many, Dice};
+use crate::plain;
 use crate::table::{Pass, Row};
-use crate::{ffi, plain};
+use hailgully_raw::lent as ffi;
 use std::hint::black_box;
 
 type Reading = (f64, f64);

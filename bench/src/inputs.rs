@@ -1,6 +1,6 @@
 //! The inputs that are timed: the same in every run, and kept for the whole run.
 
-use crate::ffi;
+use hailgully_raw::{lent as ffi, HgRefusal, HgWritten};
 
 /// How many inputs a pass goes through. Enough that the processor does not learn the sequence by heart.
 pub const MANY: usize = 4096;
@@ -64,10 +64,10 @@ pub struct Code {
 
 impl Code {
     /// The code that a writer of the library puts into the line it is lent.
-    pub fn written(write: impl Fn(&mut [u8]) -> ffi::Written) -> Code {
+    pub fn written(write: impl Fn(&mut [u8]) -> HgWritten) -> Code {
         let mut bytes = [0u8; 32];
         let w = write(&mut bytes);
-        assert_eq!(w.refusal, ffi::Refusal { number: 0, ordinal: 0, place: 0 });
+        assert_eq!(w.refusal, HgRefusal { number: 0, ordinal: 0, place: 0 });
         Code { bytes, length: w.length as usize }
     }
 

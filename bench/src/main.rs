@@ -7,7 +7,6 @@
 //! bench --instructions NAME ours|other PASSES   one side of one row, PASSES times 4096 calls, untimed: instructions.sh counts them.
 
 mod arcseconds;
-mod ffi;
 mod inputs;
 mod plain;
 mod plain_reference;

@@ -44,7 +44,7 @@ pub struct Units {
 
 /// Holds an answer of the library against a plain one: the same refusal, or both succeed and `equal` compares what they found. A polar
 /// cell is passed over.
-pub fn same<T>(ours: &crate::ffi::Refusal, other: Result<T, Refusal>, equal: impl FnOnce(T)) {
+pub fn same<T>(ours: &hailgully_raw::HgRefusal, other: Result<T, Refusal>, equal: impl FnOnce(T)) {
     match other {
         Err(r) if r.number == REFUSED_POLAR => {}
         Err(r) => assert_eq!((ours.number, ours.place, ours.ordinal), (r.number, r.place, r.ordinal)),

@@ -2,7 +2,8 @@
 
 use crate::inputs::{each, many, Code, Dice, Position};
 use crate::table::{Pass, Row};
-use crate::{ffi, plain, tight};
+use crate::{plain, tight};
+use hailgully_raw::lent as ffi;
 use std::hint::black_box;
 
 pub fn write_ours(at: &'static [Position]) -> Pass {

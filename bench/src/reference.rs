@@ -4,7 +4,8 @@
 use crate::inputs::{each, many, Code, Dice, Position};
 use crate::plain::WIDTHS;
 use crate::table::{Pass, Row};
-use crate::{ffi, plain, plain_reference, plane};
+use crate::{plain, plain_reference, plane};
+use hailgully_raw::lent as ffi;
 use std::hint::black_box;
 
 #[derive(Clone, Copy)]

@@ -81,7 +81,9 @@ macro_rules! answers {
             fn of(own: Result<$own, Refusal>) -> $record {
                 match own {
                     Ok($given) => $made,
-                    Err(Refusal { number, ordinal, place }) => $record { refusal: HgRefusal { number, ordinal, place }, ..$record::default() },
+                    Err(Refusal { number, ordinal, place }) => {
+                        $record { refusal: HgRefusal { number, ordinal, place }, ..$record::default() }
+                    }
                 }
             }
         }
