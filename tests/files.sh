@@ -4,11 +4,11 @@ set -u
 cd "$(dirname "$(dirname "$(readlink -f "$0")")")" || exit 1
 crates=$(awk -F: '!/^#/ && NF > 1 { printf "%s%s", sep, $1; sep = "|" }' crates.txt)
 pattern="^(
-README.md|crates.txt|build|run|check|.gitignore|.ci/[a-z]+|
+README.md|crates.txt|rustfmt.toml|build|run|check|.gitignore|.ci/[a-z]+|
 crates/($crates)/(src/[a-z_/]+.rt|(specs|proofs)/[^ ]+.antt|must-fail/[a-z_]+.edit|stdin|stdout|args)|
-docs/[A-Z]+.md|docs/landings/[^ /]+.md|docs/pictures/[^ /]+.svg|
+docs/[A-Z-]+.md|docs/landings/[^ /]+.md|docs/pictures/[^ /]+.svg|
 include/hailgully.h|examples/[a-z_]+.(c|stdout)|
-(tests|bench|bindings/rust)/([a-z_/]+.(rs|c|sh|py|txt)|README.md|Cargo.(toml|lock)|rustfmt.toml)
+(tests|bench|bindings/raw|bindings/rust)/([a-z0-9_/]+.(rs|c|sh|py|txt)|README.md|Cargo.(toml|lock))
 )\$"
 pattern=${pattern//$'\n'/}
 files=$(git ls-files) && [ -n "$files" ] || { echo 'files: git names no file here' && exit 1; }
