@@ -1,4 +1,4 @@
--- The demands, met by plane codes over unit squares and by space codes over unit cubes.
+-- The demands, and when 6 and 7 are given, met by plane codes over unit squares and by space codes over unit cubes.
 -- Assumes nothing.
 use mathlib.Core.Path.{_≡_, refl}
 use mathlib.Core.Bool.{Bool, true, _&&_}
