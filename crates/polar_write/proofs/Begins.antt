@@ -92,11 +92,11 @@ module _ {p : Place} (P : Polar p) where
   abbrev e : ℕ
   e = eastward (unit (p .east) (p .x))
 
-  pub lies : (k : ℕ) → ltb k 16 ≡ true → polarCellAt k .west ≤ e → e < polarCellAt k .west + polarWidth k → polarCellAt k .low ≤ p .y → p .y < polarCellAt k .low + polarHeight → Lies k p
+  lies : (k : ℕ) → k < 16 → polarCellAt k .west ≤ e → e < polarCellAt k .west + polarWidth k → polarCellAt k .low ≤ p .y → p .y < polarCellAt k .low + polarHeight → Lies k p
   lies k few a b c d =
       record {
         polar = P;
-        few = ltb-true k 16 few;
+        few = few;
         holds =
             rw (index-unit (p .north) (p .y))
             (and-make _ _ (and-make _ _ (le-leb _ _ a) (lt-ltb _ _ b)) (and-make _ _ (le-leb _ _ c) (lt-ltb _ _ d)));
@@ -106,10 +106,18 @@ module _ {p : Place} (P : Polar p) where
   turn = eastward-below (squareOf p) (polar-on p P .0)
 
   pub cap-lies : polarCellAt 0 .low ≤ p .y → Lies 0 p
-  cap-lies h = lies 0 refl (omega arith) turn h (omega (arith, P .y-in))
+  cap-lies h = lies 0 (omega arith) (omega arith) turn h (omega (arith, P .y-in))
 
-  pub disc-lies : (k : ℕ) → ltb k 16 ≡ true → polarWidth k ≡ TURN / second .ring → polarCellAt k .low ≡ DISC → DISC ≤ p .y → p .y < polarCellAt 0 .low → {x : ℕ} → x ≡ e → polarCellAt k .west ≤ x → (x < TURN → x < polarCellAt k .west + TURN / second .ring) → Lies k p
-  disc-lies k few w l a b z f g = lies k few (omega (arith, z, f)) (omega (arith, z, w, g (omega (arith, z, turn)))) (omega (arith, l, a)) (omega (arith, l, b))
+  pub disc-lies : {k : ℕ} → (ltb 0 k && ltb k 4) ≡ true → DISC ≤ p .y → p .y < polarCellAt 0 .low → {x : ℕ} → x ≡ e → polarCellAt k .west ≤ x
+      → (x < TURN → x < polarCellAt k .west + TURN / second .ring) → (0 < k) × (k < 4) × Lies k p
+  disc-lies {k} t a b z f g =
+      let u = and-true (ltb 0 k) _ t in
+      let m : 0 < k = ltb-true 0 k (u .0) in
+      let l : k < 4 = ltb-true k 4 (u .1) in
+      let h : k < 16 = omega arith in
+      let low : polarCellAt k .low ≡ DISC = placed k h .in-disc l m .0 in
+      let w : polarWidth k ≡ TURN / second .ring = rw (ne-eqb k 0 (λ z. omega arith), u .1) refl in
+      (m, l, lies k h (omega (arith, z, f)) (omega (arith, z, w, g (omega (arith, z, turn)))) (omega (arith, low, a)) (omega (arith, low, b)))
 
   -- k is a belt cell of the outer row, and k + 2 lies between it and the pole
   abbrev twoRows : ℕ → Bool
@@ -118,9 +126,9 @@ module _ {p : Place} (P : Polar p) where
   belt-lies : (k : ℕ) → 4 ≤ k → k < 16 → polarCellAt k .west ≤ e → e < polarCellAt k .west + SIXTH → polarCellAt k .low ≤ p .y → p .y < polarCellAt k .low + polarHeight → Lies k p
   belt-lies k m l a b c d =
       let w : polarWidth k ≡ SIXTH = rw (ne-eqb k 0 (λ z. omega arith), le-ltb k 4 m) refl in
-      lies k (lt-ltb k 16 l) a (omega (arith, b, w)) c d
+      lies k l a (omega (arith, b, w)) c d
 
-  module _ (out : p .y < DISC) (k : ℕ) (t : twoRows k ≡ true) where
+  module _ (out : p .y < DISC) {k : ℕ} (t : twoRows k ≡ true) where
     column : polarCellAt k .west ≤ e → e < polarCellAt k .west + SIXTH → LiesInColumn k p
     column a b =
         let u = and-true (leb 4 k && ltb k 14) _ t in

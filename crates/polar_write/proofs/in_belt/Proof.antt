@@ -12,7 +12,7 @@ west-of-requires c κs = search needs
 to-column-requires : tie.Need-to-column-requires
 to-column-requires c κs =
     let a = c .before .before .before in
-    east-column (a .before .pre .0) (a .before .pre .1) 4 refl (a .if1 .taken) (omega arith) (omega arith)
+    east-column (a .before .pre .0) (a .before .pre .1) refl (a .if1 .taken) (omega arith) (omega arith)
 
 returns : tie.Need-returns
 returns c = search needs
@@ -23,7 +23,7 @@ west-of-requires-2 c κs = search needs
 to-column-requires-2 : tie.Need-to-column-requires-2
 to-column-requires-2 c κs =
     let a = c .before .before .before .before .before .before in
-    east-column (a .before .pre .0) (a .before .pre .1) 5 refl (a .if1 .taken) (omega arith) (omega arith)
+    east-column (a .before .pre .0) (a .before .pre .1) refl (a .if1 .taken) (omega arith) (omega arith)
 
 returns-2 : tie.Need-returns-2
 returns-2 c = search needs
@@ -31,7 +31,7 @@ returns-2 c = search needs
 to-column-requires-3 : tie.Need-to-column-requires-3
 to-column-requires-3 c κs =
     let a = c .before .before .before .before .before .before in
-    east-column (a .before .pre .0) (a .before .pre .1) 8 refl (a .if1 .taken) (omega arith) (omega arith)
+    east-column (a .before .pre .0) (a .before .pre .1) refl (a .if1 .taken) (omega arith) (omega arith)
 
 returns-3 : tie.Need-returns-3
 returns-3 c = search needs
@@ -45,7 +45,7 @@ sub-if4 c = search needs
 to-column-requires-4 : tie.Need-to-column-requires-4
 to-column-requires-4 c κs =
     let a = c .before .before .before in
-    west-column (a .before .pre .0) (a .before .pre .1) 12 refl (a .if1 .left) (omega arith) (omega arith)
+    west-column (a .before .pre .0) (a .before .pre .1) refl (a .if1 .left) (omega arith) (omega arith)
 
 returns-4 : tie.Need-returns-4
 returns-4 c = search needs
@@ -59,7 +59,7 @@ sub-if5 c = search needs
 to-column-requires-5 : tie.Need-to-column-requires-5
 to-column-requires-5 c κs =
     let a = c .before .before .before .before .before .before in
-    west-column (a .before .pre .0) (a .before .pre .1) 13 refl (a .if1 .left) (omega arith) (omega arith)
+    west-column (a .before .pre .0) (a .before .pre .1) refl (a .if1 .left) (omega arith) (omega arith)
 
 returns-5 : tie.Need-returns-5
 returns-5 c = search needs
@@ -67,7 +67,7 @@ returns-5 c = search needs
 to-column-requires-6 : tie.Need-to-column-requires-6
 to-column-requires-6 c κs =
     let a = c .before .before .before .before .before .before in
-    west-column (a .before .pre .0) (a .before .pre .1) 9 refl (a .if1 .left) (omega arith) (omega arith)
+    west-column (a .before .pre .0) (a .before .pre .1) refl (a .if1 .left) (omega arith) (omega arith)
 
 returns-6 : tie.Need-returns-6
 returns-6 c = search needs

@@ -25,7 +25,7 @@ to-disc-requires : tie.Need-to-disc-requires
 to-disc-requires c κs =
     let a = c .before .before in
     let s = a .before .before .before .before in
-    (omega arith, omega arith, disc-lies (s .pre .0) 1 refl refl refl (s .pre .1) (omega arith) (a .eastward-of .ensures) (omega arith) (λ h. omega arith))
+    disc-lies (s .pre .0) refl (s .pre .1) (omega arith) (a .eastward-of .ensures) (omega arith) (λ h. omega arith)
 
 returns-2 : tie.Need-returns-2
 returns-2 c = search needs
@@ -37,7 +37,7 @@ to-disc-requires-2 : tie.Need-to-disc-requires-2
 to-disc-requires-2 c κs =
     let a = c .before .before .before .before in
     let s = a .before .before .before .before in
-    (omega arith, omega arith, disc-lies (s .pre .0) 2 refl refl refl (s .pre .1) (omega arith) (a .eastward-of .ensures) (omega arith) (λ h. omega arith))
+    disc-lies (s .pre .0) refl (s .pre .1) (omega arith) (a .eastward-of .ensures) (omega arith) (λ h. omega arith)
 
 returns-3 : tie.Need-returns-3
 returns-3 c = search needs
@@ -46,7 +46,7 @@ to-disc-requires-3 : tie.Need-to-disc-requires-3
 to-disc-requires-3 c κs =
     let a = c .before .before .before .before in
     let s = a .before .before .before .before in
-    (omega arith, omega arith, disc-lies (s .pre .0) 3 refl refl refl (s .pre .1) (omega arith) (a .eastward-of .ensures) (omega arith) (λ h. omega arith))
+    disc-lies (s .pre .0) refl (s .pre .1) (omega arith) (a .eastward-of .ensures) (omega arith) (λ h. omega arith)
 
 returns-4 : tie.Need-returns-4
 returns-4 c = search needs
