@@ -58,7 +58,7 @@ fn below_ground(top: u32, n: u32) -> u32
     requires { ⌜ n < top ⌝ }
     ensures { λ r. ⌜ r ≡ rise top (negsuc n) ⌝ }
 {
-    top - 1 - n
+    top - (n + 1)
 }
 
 // Over any radices: as many layers above ground as they number, and as many below.

@@ -8,11 +8,11 @@ use Rattle.space.proofs.plane_place.Tie as tie
 array-read-result : tie.Need-array-read-result
 array-read-result c = search needs
 
-cast-result : tie.Need-cast-result
-cast-result c = omega (arith, plane-at (c .before .args .p) (c .if1 .taken) .small)
-
 returns : tie.Need-returns
 returns c = plane-at (c .before .args .p) (c .if1 .taken) .same
+
+cast-result : tie.Need-cast-result
+cast-result c = omega (arith, plane-at (c .before .args .p) (c .if1 .taken) .small)
 
 returns-2 : tie.Need-returns-2
 returns-2 c = plane-none _ (c .if1 .left)
