@@ -1,17 +1,16 @@
 -- A block, part after part: what the returns of `print_some`, `print_last` and `print_block` need.
 -- Assumes nothing.
-use mathlib.Core.Path.{_≡_, refl, sym, subst, subst⁻¹, _∙_}
+use mathlib.Core.Path.{_≡_, refl, sym, subst, _∙_}
 use mathlib.Core.Bool.{Bool, true, false, cond}
 use mathlib.Core.List.{List, [], _++_}
 use Prim.Native.Nat.{ℕ, _+_, _-_, _≤_, _<_}
 use native.Mathlib.Omega.{arith}
 use lib.ListN.{length, take, drop, length-drop, drop-of-length-le}
 use lib.Seq.{length-take-le, take-all, drop-drop}
-use Rattle.lines.specs.declared.Marks.{Marks}
-use Rattle.lines.specs.Filling.{KEPT, ROOM, Work, marks, work, start, fill}
+use Rattle.lines.specs.Filling.{Work, marks, work, start, fill}
 use Rattle.lines.specs.Run.{Printing, none, part, Through}
-use Rattle.lines.specs.inner.Buffers.{Laid, Lent}
-use Rattle.lines.proofs.Filling.{Filled, lent-filled, uses-some}
+use Rattle.lines.specs.inner.Buffers.{Lent}
+use Rattle.lines.proofs.Filling.{lent-filled, uses-some}
 
 -- a test does not come out both ways
 pub not-both : {A : Type 0} {b : Bool} → b ≡ true → b ≡ false → A

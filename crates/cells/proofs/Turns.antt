@@ -7,7 +7,7 @@ use Prim.Native.Nat.{ℕ, _≤_}
 use native.Mathlib.Omega.{arith}
 use lib.ListN.{length}
 use lib.Seq.{sets}
-use Rattle.lines.specs.Filling.{KEPT, ROOM, start}
+use Rattle.lines.specs.Filling.{KEPT, start}
 use Rattle.lines.specs.Run.{finishText, Through, Turns, begun, turn, Ran}
 use Rattle.lines.specs.inner.Buffers.{Lent}
 
