@@ -2,6 +2,7 @@
 
 use crate::calls::{words, Call};
 use crate::regions::{self, SLOTS};
+use hailgully_tests::slips;
 use std::collections::BTreeMap;
 
 /// The most refusals that a call has.
@@ -130,7 +131,11 @@ impl Tally {
         for ((_, family), cases) in &self.families {
             println!("family {family}: {cases} cases");
         }
-        let missing: Vec<String> = Call::ALL.into_iter().flat_map(|call| self.calls[call as usize].report(call)).collect();
+        let mut missing: Vec<String> = Call::ALL.into_iter().flat_map(|call| self.calls[call as usize].report(call)).collect();
+        if slips::current() != 0 {
+            // With a slip on a difference alone says that it was found, and regions are not counted.
+            missing.clear();
+        }
         for told in &self.told {
             println!("DIFFERENCE: {told}");
         }
