@@ -26,10 +26,11 @@ pub struct Family {
     pub kind: Kind,
 }
 
-pub fn all() -> Vec<Family> {
+/// All of them; those that lend memory of 2^31 bytes and more only where it may be huge.
+pub fn all(huge: bool) -> Vec<Family> {
     [
         own::families(),
-        long::families(),
+        long::families(huge),
         regions::families(),
         plane::families(),
         space::families(),

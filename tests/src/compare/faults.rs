@@ -60,6 +60,11 @@ pub fn of_library(number: u32) -> bool {
     fault(number).is_some()
 }
 
+/// Only memory of 2^31 bytes and more shows it.
+pub fn huge(number: u32) -> bool {
+    matches!(fault(number), Some(Fault::Cut(_, 32)))
+}
+
 /// A slip or a fault in words.
 pub fn words(number: u32) -> String {
     match fault(number) {

@@ -42,13 +42,14 @@ fn all_slips(families: &[Family], options: &Options) -> bool {
         return false;
     }
     let mut unfound = 0;
-    for slip in 1..=faults::count() {
+    let asked = |slip: &u32| options.huge || !faults::huge(*slip);
+    for slip in (1..=faults::count()).filter(asked) {
         let tally = ask(slip);
         let found = if tally.differences > 0 { "found within" } else { "NOT FOUND in" };
         unfound += u32::from(tally.differences == 0);
         println!("slip {slip}: {found} {} cases: {}", tally.cases(), faults::words(slip));
     }
-    println!("slips: {} in all, {unfound} not found", faults::count());
+    println!("slips: {} in all, {unfound} not found", (1..=faults::count()).filter(asked).count());
     unfound == 0
 }
 
@@ -96,7 +97,7 @@ fn main() -> ExitCode {
         println!("{}", options::HELP);
         return ExitCode::SUCCESS;
     }
-    let families = families::all();
+    let families = families::all(options.huge);
     let well = if options.slips {
         all_slips(&families, &options)
     } else {

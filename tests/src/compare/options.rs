@@ -8,6 +8,7 @@ pub const HELP: &str = "compare: holds the library against the oracle
   --cases N     the least number of cases in all (12,000,000); fixed families are always done whole, and at least half as many random cases are added
   --seeds N     for a night: this seed and the N - 1 after it, a line each; the fixed families with the first, so many random cases with each other
   --threads N   (2)
+  --no-huge     lend no memory of 2^31 bytes and more, and leave out the faults that only it shows: for an emulator, which keeps tables of every page
   --slips       turn on each deliberate slip of the oracle, and each fault of the library, in turn; fails unless every one is found
   HG_SLIP=k     in the environment: turn on the k-th, which must make the run fail
 
@@ -19,6 +20,7 @@ pub struct Options {
     pub cases: u64,
     pub threads: usize,
     pub slips: bool,
+    pub huge: bool,
     pub help: bool,
     /// The slip or fault that is on, or 0.
     pub slip: u32,
@@ -26,7 +28,7 @@ pub struct Options {
 
 impl Options {
     pub fn given() -> Result<Options, String> {
-        let mut options = Options { seed: 1, seeds: 1, cases: 12_000_000, threads: 2, slips: false, help: false, slip: 0 };
+        let mut options = Options { seed: 1, seeds: 1, cases: 12_000_000, threads: 2, slips: false, huge: true, help: false, slip: 0 };
         let mut words = std::env::args().skip(1);
         while let Some(word) = words.next() {
             let mut number = || number(&word, &words.next().ok_or(format!("{word} lacks a number"))?);
@@ -36,6 +38,7 @@ impl Options {
                 "--cases" => options.cases = number()?,
                 "--threads" => options.threads = number()? as usize,
                 "--slips" => options.slips = true,
+                "--no-huge" => options.huge = false,
                 "--help" => options.help = true,
                 _ => return Err(format!("unknown word {word}")),
             }

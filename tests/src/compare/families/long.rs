@@ -6,19 +6,30 @@ use hailgully_tests::cases;
 use hailgully_tests::plane::{write, LENGTHS};
 use hailgully_tests::space;
 
-pub fn families() -> Vec<Family> {
-    let pieces = 16 * BITS.len() as u64;
-    vec![fixed("long: lines", pieces, lines), fixed("long: codes", pieces, codes)]
+/// Memory of 2^31 bytes and more is lent only where it may be: untouched pages cost a machine nothing, and an emulator gigabytes.
+pub fn families(huge: bool) -> Vec<Family> {
+    let mut families = vec![
+        fixed("long: lines", 16 * SMALL.len() as u64, |run, piece| lines(run, around(&SMALL, piece))),
+        fixed("long: codes", 16 * SMALL.len() as u64, |run, piece| codes(run, around(&SMALL, piece))),
+    ];
+    if huge {
+        families.push(fixed("long: huge lines", HUGE.len() as u64, |run, piece| lines(run, around(&HUGE, piece))));
+        families.push(fixed("long: huge codes", HUGE.len() as u64, |run, piece| codes(run, around(&HUGE, piece))));
+    }
+    families
 }
 
 /// The first two of them are those at which a cut to 8 bits, or to a signed number of 8 bits, shows; and so on.
-const BITS: [u32; 6] = [7, 8, 15, 16, 31, 32];
+const SMALL: [u32; 4] = [7, 8, 15, 16];
+const HUGE: [u32; 2] = [31, 32];
 
-/// Around what number a piece goes, and at which square. Where memory is huge one square will do.
-fn around(piece: u64) -> Option<(usize, (i64, i64))> {
-    let bits = BITS[piece as usize % BITS.len()];
-    let square = piece as usize / BITS.len();
-    (bits <= 16 || square == 0).then(|| (1 << bits, cases::places_of_each_kind()[square]))
+/// A number and a square.
+type Around = (usize, (i64, i64));
+
+/// Around what number a piece goes, and at which square.
+fn around(bits: &[u32], piece: u64) -> Around {
+    let (at, square) = (piece as usize % bits.len(), piece as usize / bits.len());
+    (1 << bits[at], cases::places_of_each_kind()[square])
 }
 
 /// Lines with just enough room, or one byte less, at places around the number; lines of a little more than the number; places near 2^64.
@@ -32,8 +43,7 @@ fn rooms(near: usize, need: usize, mut ask: impl FnMut(usize, usize)) {
     }
 }
 
-fn lines(run: &mut Run, piece: u64) {
-    let Some((near, (longitude, latitude))) = around(piece) else { return };
+fn lines(run: &mut Run, (near, (longitude, latitude)): Around) {
     for (level, need) in (1..).zip(LENGTHS) {
         rooms(near, need, |length, at| run.plane_write(level, longitude, latitude, length, at));
     }
@@ -59,8 +69,7 @@ fn longer(code: &[u8], by: usize, fill: u8) -> Vec<u8> {
     long
 }
 
-fn codes(run: &mut Run, piece: u64) {
-    let Some((near, square)) = around(piece) else { return };
+fn codes(run: &mut Run, (near, square): Around) {
     let times = if near <= 1 << 16 { 3 } else { 1 };
     let (flat, tall) = (write::finest(square.0, square.1), space::finest(square, -7));
     let base = write::finest(5, 5);
