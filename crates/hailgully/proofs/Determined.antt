@@ -20,12 +20,10 @@ use Rattle.space.specs.declared.SpaceRead.the-variants as space-as
 use Rattle.space.specs.Space.{spaceText, spaceRead}
 use Rattle.reference.specs.Text.{referenceText, targetText}
 use Rattle.arcseconds.specs.declared.UnitsRead.{UnitsRead}
-use Rattle.arcseconds.specs.declared.BoxRead.{BoxRead}
 use Rattle.arcseconds.specs.Readings.{unitsOf, unitsRead}
 use Rattle.arcseconds.specs.Boxes.{BoxSays}
 use Rattle.arcseconds.proofs.Exact.{one-exactly}
 use Rattle.arcseconds.proofs.Theorems as arc
-use Rattle.hailgully.specs.declared.HgBox.{HgBox}
 use Rattle.hailgully.specs.declared.HgPlaneCell.{HgPlaneCell}
 use Rattle.hailgully.specs.declared.HgRefusal.{HgRefusal}
 use Rattle.hailgully.specs.declared.HgSpaceCell.{HgSpaceCell}

@@ -21,7 +21,8 @@ pub enum AskedLayer {
     Outside,
 }
 
-// What height characters lead to: layers above ground or below, the lowest one's rise, and how many they are; or the place of the first character that is not allowed, which is refusal 7.
+// What height characters lead to: layers above ground or below, the lowest one's rise, and how many they are;
+// or the place of the first character that is not allowed, which is refusal 7.
 pub enum LayersRead {
     Found(bool, u32, u32),
     Bad(usize),
