@@ -1,6 +1,6 @@
 -- The polar cell of a place by its digits, and where the place stands in it; and the belt cells that the edges of the table give it.
 -- Assumes nothing.
-use mathlib.Core.Path.{_≡_, refl, sym, subst}
+use mathlib.Core.Path.{_≡_, refl, subst}
 use mathlib.Core.Bool.{Bool, true, false, _&&_}
 use Prim.Native.Nat.{ℕ, _+_, _-_, _/_, _%_, _≤_, _<_}
 use native.Mathlib.Omega.{arith}
@@ -8,7 +8,7 @@ use lib.Dec.{ltb, leb, eqb}
 use borrow.Author.Tests.{ltb-true, leb-true, eqb-true, lt-ltb, le-ltb, le-leb, ne-eqb}
 use Rattle.grid.specs.declared.Place.{Place}
 use Rattle.grid.specs.declared.PolarCell.{PolarCell}
-use Rattle.grid.specs.Units.{TURN, HALF, QUARTER, POLAR, DISC, index, unit, eastward, Square}
+use Rattle.grid.specs.Units.{TURN, HALF, QUARTER, POLAR, DISC, unit, eastward, Square}
 use Rattle.grid.specs.inner.Roads.{squareOf}
 use Rattle.grid.specs.Splits.{second, polarCellAt}
 use Rattle.grid.specs.Plane.{Node, cell, belt, disc, SIXTH, polarWidth, polarHeight, polarCellOf, polarNode, beltBox, discBox}
