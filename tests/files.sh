@@ -7,7 +7,7 @@ pattern="^(
 README.md|crates.txt|rustfmt.toml|build|run|check|.gitignore|.ci/[a-z]+|
 crates/($crates)/(src/[a-z_/]+.rt|(specs|proofs)/[^ ]+.antt|must-fail/[a-z_]+.edit|stdin|stdout|args)|
 docs/[A-Z-]+.md|docs/landings/[^ /]+.md|docs/pictures/[^ /]+.svg|
-include/hailgully.h|examples/[a-z_]+.(c|stdout)|
+include/hailgully.(h|pc)|examples/[a-z_]+.(c|stdout)|
 (tests|bench|bindings/raw|bindings/rust)/([a-z0-9_/]+.(rs|c|sh|py|txt)|README.md|Cargo.(toml|lock))
 )\$"
 pattern=${pattern//$'\n'/}

@@ -64,8 +64,10 @@ case_of 'help' 0 "usage: ./run [FILE...]
 case_of 'help for a full output' 1 '' '*No space left*' '"$run" --help >/dev/full'
 case_of 'through a link' 0 "$sheet" '' 'ln -s "$run" linked && ./linked one'
 
-case_of 'the library left in a folder' 0 'a/b: libhailgully.a hailgully.h' '' '"$build" a/b && [ -s a/b/hailgully.h ] && [ -s a/b/libhailgully.a ]'
-case_of 'the library through a link' 0 'c: libhailgully.a hailgully.h' '' 'ln -s "$build" builds && ./builds c && [ -s c/libhailgully.a ]'
+case_of 'the library left in a folder' 0 'a/b: libhailgully.a hailgully.h hailgully.pc' '' '"$build" a/b && [ -s a/b/hailgully.h ] && [ -s a/b/libhailgully.a ]'
+case_of 'the library through a link' 0 'c: libhailgully.a hailgully.h hailgully.pc' '' 'ln -s "$build" builds && ./builds c && [ -s c/libhailgully.a ]'
+command -v pkg-config >/dev/null || { apt-get update && apt-get install -y pkg-config; } >apt 2>&1 || tail -n 5 apt
+case_of 'what pkg-config says of it' 0 "-I$scratch/c -L$scratch/c -lhailgully" '' 'echo $(PKG_CONFIG_PATH=$PWD/c pkg-config --cflags --libs hailgully)'
 case_of 'a folder that cannot be made' 1 '' 'mkdir: *' '"$build" one/d 2>&1 | grep -v ^build: >&2; exit "${PIPESTATUS[0]}"'
 case_of 'help of build' 0 'usage: ./build [DIR]' '' '"$build" --help | grep ^usage; exit "${PIPESTATUS[0]}"'
 case_of 'an unknown option of build' 2 '' "build: *no option '--shared'*" '"$build" --shared'
