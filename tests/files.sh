@@ -1,5 +1,6 @@
 #!/usr/bin/env bash
-# Every file of the repository belongs to something: it names each one that does not, and fails if there is one.
+# Every file of the repository belongs to something, and no line of a document is longer than 160 characters: it names what breaks this, and fails
+# if something does.
 set -u
 cd "$(dirname "$(dirname "$(readlink -f "$0")")")" || exit 1
 crates=$(awk -F: '!/^#/ && NF > 1 { printf "%s%s", sep, $1; sep = "|" }' crates.txt)
@@ -16,3 +17,8 @@ if printf '%s\n' "$files" | grep -v -E -x -e "${pattern//./\\.}"; then
   echo 'files: these belong to nothing'
   exit 1
 fi
+status=0
+while IFS= read -r document; do
+  longest=$(wc -L <"$document") && [ "$longest" -le 160 ] || { echo "files: $document has a line of $longest characters" && status=1; }
+done < <(printf '%s\n' "$files" | grep '\.md$')
+exit "$status"

@@ -1,5 +1,6 @@
 #!/usr/bin/env bash
-# What has to be believed: no definition outside specs/inner rests on one inside, and no name of specs/ means two things in two crates.
+# What has to be believed: no definition outside specs/inner rests on one inside, no name of specs/ means two things in two crates, and
+# docs/CONTRACTS.md names each file of the first kind and each must-fail edit.
 # It names what breaks this, and fails if something does.
 set -u
 cd "$(dirname "$(dirname "$(readlink -f "$0")")")" || exit 1
@@ -13,6 +14,11 @@ if grep -n '^ *use .*\.inner\.' "${believed[@]}"; then
   echo 'statements: these files are to be believed, and rest on what only serves inner contracts'
   status=1
 fi
+
+for file in "${believed[@]}" crates/*/must-fail/*.edit; do
+  name=$(basename "$file" .antt)
+  [ "$name" = Lib ] || grep -q -w -e "${name%.edit}" docs/CONTRACTS.md || { echo "statements: docs/CONTRACTS.md does not name $file" && status=1; }
+done
 
 # the public types and functions of each crate; neither the fields of a record nor the lines that name a file
 awk '
