@@ -1,14 +1,14 @@
 -- Characters and digits: where a byte's digit is found, and that the two ways undo each other.
 -- Assumes nothing.
-use mathlib.Core.Path.{_≡_, refl, sym, _∙_}
+use mathlib.Core.Path.{_≡_, refl, sym, ap, _∙_}
 use mathlib.Core.Bool.{Bool, true, false, cond, _&&_}
 use mathlib.Core.List.{List, [], _∷_, map}
-use Prim.Native.Nat.{ℕ, _+_, _-_, _%_, _^_, _≤_, _<_}
+use Prim.Native.Nat.{ℕ, _+_, _-_, _%_, _^_, _≤_, _<_, min}
 use native.Mathlib.Omega.{arith}
 use lib.Dec.{ltb, leb, eqb}
 use borrow.Author.Tests.{ltb-true, ltb-false, leb-true, eqb-true, lt-ltb, le-ltb, le-leb, lt-leb}
 use Rattle.grid.specs.Characters.{charOf, digitOf}
-use Rattle.grid.specs.inner.Roads.{decimalDigit}
+use Rattle.grid.specs.inner.Roads.{decimalDigit, DigitBelow}
 use Rattle.grid.specs.Tree.{Read, guard}
 use Rattle.grid.proofs.Cut.{and-true, below, Below}
 
@@ -115,15 +115,44 @@ module _ (b : ℕ) where
         let f : d ≡ digitOf b = near-zero b d e h in
         f ∙ sym (decimal-below (omega arith))
 
-    pub decimal-far : 10 ≤ d → d < 2 ^ 32 → 32 ≡ decimalDigit b
-    decimal-far h k = go (ltb (digitOf b) 10) refl
+    far-zero : 10 ≤ d → d < 2 ^ 32 → 10 ≤ digitOf b
+    far-zero h k = go (ltb (digitOf b) 10) refl
       where
-        go : (q : Bool) → ltb (digitOf b) 10 ≡ q → 32 ≡ decimalDigit b
+        go : (q : Bool) → ltb (digitOf b) 10 ≡ q → 10 ≤ digitOf b
         go true q =
             let l : digitOf b < 10 = ltb-true _ _ q in
             let c : 48 + digitOf b ≡ b = char-decimal (digitOf b) l ∙ char-digit b (omega arith) in
             absurd (omega arith)
-        go false q = sym (decimal-above (ltb-false _ _ q))
+        go false q = ltb-false _ _ q
+
+    pub decimal-far : 10 ≤ d → d < 2 ^ 32 → 32 ≡ decimalDigit b
+    decimal-far h k = sym (decimal-above (far-zero h k))
+
+    pub below-ten : d < 2 ^ 32 → DigitBelow 10 b d
+    below-ten k = go (ltb d 10) refl
+      where
+        go : (q : Bool) → ltb d 10 ≡ q → DigitBelow 10 b d
+        go true q = record { tells = ap (λ x. min x 10) (near-zero b d e (ltb-true _ _ q)) }
+        go false q =
+            let h : 10 ≤ d = ltb-false _ _ q in
+            let f : 10 ≤ digitOf b = far-zero h k in
+            record { tells = omega arith }
+
+    -- and by its distance from 'A', taken around the 8 bits
+    pub below-near : d < 10 → DigitBelow 32 b d
+    below-near h = record { tells = ap (λ x. min x 32) (near-zero b d e h) }
+
+    pub below-far : 10 ≤ d → d < 2 ^ 32 → b < 256 → (l : ℕ) → (l + 65) % 2 ^ 8 ≡ b → l < 256 → DigitBelow 32 b (l + 10)
+    below-far h k w l f v = go (ltb l 22) refl
+      where
+        go : (q : Bool) → ltb l 22 ≡ q → DigitBelow 32 b (l + 10)
+        go true q =
+            let m : l < 22 = ltb-true _ _ q in
+            record { tells = ap (λ x. min x 32) (near-a b d e l (omega arith) h m) }
+        go false q =
+            let m : 22 ≤ l = ltb-false _ _ q in
+            let n : 32 ≡ digitOf b = near-neither b d e ((b + 4294967231) % 2 ^ 32) (omega arith) h (omega arith) k (omega arith) w in
+            record { tells = omega arith }
 
   -- a test against a limit of at most 10 does not tell the two apart
   pub decimal-guard : {A : Type 0} (p limit : ℕ) (f : ℕ → Read A) → limit ≤ 10 → guard p (ltb (decimalDigit b) limit) (f (decimalDigit b)) ≡ guard p (ltb (digitOf b) limit) (f (digitOf b))
@@ -134,3 +163,17 @@ module _ (b : ℕ) where
       go false q =
           let l : 10 ≤ digitOf b = ltb-false _ _ q in
           rw (decimal-above l, le-ltb (digitOf b) limit (omega arith), le-ltb 32 limit (omega arith)) refl
+
+-- a test against a limit of at most n does not tell a byte's digit from what tells it below n
+pub guard-below : {A : Type 0} {n b r : ℕ} → DigitBelow n b r → (p limit : ℕ) (f : ℕ → Read A) → limit ≤ n
+    → guard p (ltb r limit) (f r) ≡ guard p (ltb (digitOf b) limit) (f (digitOf b))
+guard-below {A} {n} {b} {r} e p limit f h = go (ltb r limit) refl
+  where
+    go : (q : Bool) → ltb r limit ≡ q → guard p (ltb r limit) (f r) ≡ guard p (ltb (digitOf b) limit) (f (digitOf b))
+    go true q =
+        let l : r < limit = ltb-true _ _ q in
+        let m : r ≡ digitOf b = omega (arith, e .tells) in
+        ap (λ x. guard p (ltb x limit) (f x)) m
+    go false q =
+        let l : limit ≤ r = ltb-false _ _ q in
+        rw (q, le-ltb (digitOf b) limit (omega (arith, e .tells))) refl
