@@ -9,7 +9,7 @@ use lib.Dec.{ltb, leb, eqb}
 use borrow.Author.Tests.{ltb-true, ltb-false, leb-true, eqb-true, lt-ltb, le-ltb, le-leb, lt-leb}
 use Rattle.grid.specs.Characters.{charOf, digitOf}
 use Rattle.grid.specs.inner.Roads.{decimalDigit, DigitBelow}
-use Rattle.grid.specs.Tree.{Read, guard}
+use Rattle.grid.specs.Tree.{Read, bad, guard}
 use Rattle.grid.proofs.Cut.{and-true, below, Below}
 
 -- ---- where a byte's digit is found
@@ -164,16 +164,21 @@ module _ (b : ℕ) where
           let l : 10 ≤ digitOf b = ltb-false _ _ q in
           rw (decimal-above l, le-ltb (digitOf b) limit (omega arith), le-ltb 32 limit (omega arith)) refl
 
--- a test against a limit of at most n does not tell a byte's digit from what tells it below n
+-- ---- what tells a byte's digit below n
+
+-- where all the numbers from n on come to one value, it serves as the digit does
+pub told : {A : Type 0} {n b r : ℕ} → DigitBelow n b r → (f : ℕ → A) (v : A) → ((m : ℕ) → n ≤ m → f m ≡ v) → f r ≡ f (digitOf b)
+told {A} {n} {b} {r} e f v h = go (ltb r n) refl
+  where
+    go : (q : Bool) → ltb r n ≡ q → f r ≡ f (digitOf b)
+    go true q =
+        let l : r < n = ltb-true _ _ q in
+        ap f (omega (arith, e .tells))
+    go false q =
+        let l : n ≤ r = ltb-false _ _ q in
+        h r l ∙ sym (h (digitOf b) (omega (arith, e .tells)))
+
+-- as in a test against a limit of at most n
 pub guard-below : {A : Type 0} {n b r : ℕ} → DigitBelow n b r → (p limit : ℕ) (f : ℕ → Read A) → limit ≤ n
     → guard p (ltb r limit) (f r) ≡ guard p (ltb (digitOf b) limit) (f (digitOf b))
-guard-below {A} {n} {b} {r} e p limit f h = go (ltb r limit) refl
-  where
-    go : (q : Bool) → ltb r limit ≡ q → guard p (ltb r limit) (f r) ≡ guard p (ltb (digitOf b) limit) (f (digitOf b))
-    go true q =
-        let l : r < limit = ltb-true _ _ q in
-        let m : r ≡ digitOf b = omega (arith, e .tells) in
-        ap (λ x. guard p (ltb x limit) (f x)) m
-    go false q =
-        let l : limit ≤ r = ltb-false _ _ q in
-        rw (q, le-ltb (digitOf b) limit (omega (arith, e .tells))) refl
+guard-below {n = n} e p limit f h = told e (λ x. guard p (ltb x limit) (f x)) (bad p) (λ m k. rw (le-ltb m limit (omega arith)) refl)
