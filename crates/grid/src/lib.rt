@@ -317,6 +317,19 @@ pub fn decimal_value(b: u8) -> u32
     std::num::wrapping_sub_u32(b as u32, 48)
 }
 
+// The same for bounds of at most the limit: letters are looked for only where it needs them. Where the limit is known when the caller is compiled,
+// the test here is gone.
+pub fn digit_below(limit: u32, b: u8) -> u32
+    requires { ⌜ limit ≤ 32 ⌝ }
+    ensures { λ r. ⌜ DigitBelow limit b r ⌝ }
+{
+    if limit <= 10 {
+        decimal_value(b)
+    } else {
+        value(b)
+    }
+}
+
 // N or S, a code's first character.
 pub fn hemisphere(north: bool) -> u8
     ensures { λ r. ⌜ r ≡ charOf (letter north) ⌝ }

@@ -9,7 +9,7 @@ ghost use Rattle.grid.specs.Tree.{bad};
 ghost use Rattle.grid.specs.Answers.{planeRead};
 ghost use Rattle.grid.specs.Splits.{first};
 ghost use Rattle.grid.specs.Plane.{sheet};
-ghost use Rattle.grid.specs.inner.Roads.{DigitBelow, laterRead};
+ghost use Rattle.grid.specs.inner.Roads.{laterRead};
 ghost use Rattle.ordinary_read.specs.inner.Reading.{
   ordinaryRead,
   ordinaryAnswer,
@@ -28,19 +28,6 @@ use grid::Cell;
 use grid::PlaneRead;
 use grid::Refusal;
 use grid::Split;
-
-// A character's digit, as far as a test against the limit can tell. Letters are looked for only where the limit needs them; a level's limits are
-// known when its reading is compiled, and the test here is gone.
-fn digit_below(limit: u32, b: u8) -> u32
-    requires { ⌜ limit ≤ 32 ⌝ }
-    ensures { λ r. ⌜ DigitBelow limit b r ⌝ }
-{
-    if limit <= 10 {
-        grid::decimal_value(b)
-    } else {
-        grid::value(b)
-    }
-}
 
 // The reading place, and the cell read so far: its quarter, the outward indices where it begins, and its size.
 // Once a character is not allowed the cursor is no longer good, and its place is that character's.
@@ -129,8 +116,8 @@ impl Cursor {
             return self;
         }
         let at = self.place;
-        let column = digit_below(s.columns, code[at]);
-        let row = digit_below(s.rows, code[at + 1]);
+        let column = grid::digit_below(s.columns, code[at]);
+        let row = grid::digit_below(s.rows, code[at + 1]);
         self.child(s, column, row)
     }
 

@@ -1,8 +1,8 @@
--- `digit_below` meets its contract: what tells a digit below 10, or below 32, tells it below a limit of at most that. Assumes nothing.
+-- `grid::digit_below` meets its contract: what tells a digit below 10, or below 32, tells it below a limit of at most that. Assumes nothing.
 use native.Mathlib.Omega.{arith}
 use borrow.Author.Needs.{needs}
-use Rattle.ordinary_read.proofs.digit_below.Statement.{statement}
-use Rattle.ordinary_read.proofs.digit_below.Tie as tie
+use Rattle.grid.proofs.digit_below.Statement.{statement}
+use Rattle.grid.proofs.digit_below.Tie as tie
 
 decimal-value-requires : tie.Need-decimal-value-requires
 decimal-value-requires c κs = search needs
