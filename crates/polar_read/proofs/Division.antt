@@ -13,7 +13,7 @@ use Rattle.grid.specs.Plane.{allowed, Part, Node, cell, disc, sub, round, ringN
 use Rattle.grid.proofs.Cut.{clash, cut-end}
 use Rattle.grid.proofs.Step.{allowed-of}
 use Rattle.polar_read.specs.declared.Cursor.{Cursor}
-use Rattle.polar_read.specs.inner.Reading.{nodeOf, HasRead, columnsOf, inmostOf, divided, polarChild, settledOf, Moved}
+use Rattle.polar_read.specs.inner.Reading.{nodeOf, AllRound, HasRead, columnsOf, inmostOf, divided, polarChild, settledOf, Moved}
 use Rattle.polar_read.specs.inner.Room.{PolarRoom, ChildRoom}
 
 -- a cursor that has read r has read what equals it
@@ -40,7 +40,8 @@ module _ (c : Cursor) (s : Split) {columns : ℕ} (e : columns ≡ columnsOf c s
 pub child-room : (c : Cursor) (s : Split) {columns : ℕ} (i j : ℕ) {t : Bool} → PolarRoom c s → columns ≡ columnsOf c s → t ≡ allowed (c .cap) (divided c s) i j → t ≡ true → ChildRoom c s columns i j
 child-room c s i j r e q h =
     let a = allowed-of (c .cap) (divided c s) i j (sym q ∙ h) in
-    record { room = r; counted = e; column = omega (arith, e, a .col); row = a .row }
+    let l : cond (inmostOf c j) (eqb i 0) true ≡ true = a-child c s refl i j (a .col) (a .row) refl ∙ sym q ∙ h in
+    record { room = r; counted = e; column = omega (arith, e, a .col); row = a .row; inmost = λ g. eqb-true i 0 (rw g at l) }
 
 -- the child where there is one, and else the place
 module _ (c : Cursor) (s : Split) (i j at : ℕ) {t : Bool} (q : t ≡ allowed (c .cap) (divided c s) i j) {m : Cursor} where
@@ -60,53 +61,56 @@ ring-node : (n : Bool) (p : Part) (h i j : ℕ) → ¬ (j ≡ 0) → ringNode n 
 ring-node n p h i zero f = absurd (f refl)
 ring-node n p h i (suc j) f = refl
 
-module _ (c : Cursor) (s : Split) {columns i j : ℕ} (r : ChildRoom c s columns i j) {t : Bool} (q : t ≡ inmostOf c j) where
-  -- the new cap
-  abbrev narrowed : Cursor
-  narrowed =
-      record { good = c .good; place = c .place + s .characters; north = c .north; cap = c .cap; disc = c .disc; east = c .east; x = c .x; w = c .w; y = c .y; h = c .h / s .inward }
+module _ (c : Cursor) (s : Split) {columns i j : ℕ} (r : ChildRoom c s columns i j) {t : Bool} (q : t ≡ inmostOf c j) {v : ℕ} (u : v ≡ cond t (c .w) (c .w / columns)) where
+  -- the child ends within the cell
+  pub across : i * v + v ≤ c .w
+  across = go t refl
+    where
+      go : (b : Bool) → t ≡ b → i * v + v ≤ c .w
+      go true p = let z : i ≡ 0 = r .inmost (sym q ∙ p) in let m : v ≡ c .w = rw p at u in rw z (omega arith)
+      go false p = let m : v ≡ c .w / columns = rw p at u in rw m (part-end i columns (c .w) (r .column))
 
   -- the cell in column i and row j
-  abbrev parted : Cursor
-  parted =
+  abbrev moved : Cursor
+  moved =
       record {
-        good = c .good;
+        good = true;
         place = c .place + s .characters;
         north = c .north;
-        cap = false;
+        cap = t;
         disc = c .disc;
         east = c .east;
-        x = c .x + i * (c .w / columns);
-        w = c .w / columns;
+        x = c .x + i * v;
+        w = v;
         y = c .y + j * (c .h / s .inward);
         h = c .h / s .inward;
       }
 
-  narrowed-node : t ≡ true → nodeOf narrowed ≡ polarChild c s i j
-  narrowed-node e = go (c .cap) refl (sym q ∙ e)
+  moved-node : nodeOf moved ≡ polarChild c s i j
+  moved-node = go (c .cap) refl t refl q (r .counted)
     where
-      go : (b : Bool) → c .cap ≡ b → cond b (eqb j 0) false ≡ true → nodeOf narrowed ≡ polarChild c s i j
-      go true p z = rw (p, eqb-true j 0 z) refl
+      go : (b : Bool) → c .cap ≡ b → (g : Bool) → t ≡ g → t ≡ cond b (eqb j 0) false → columns ≡ cond b (s .ring) (s .columns) → nodeOf moved ≡ polarChild c s i j
+      go true p true f z k = rw (p, f, eqb-true j 0 (sym z ∙ f)) refl
+      go true p false f z k =
+          let a = r .room .round p in
+          rw (u, p, f, k, ring-node (c .north) _ (c .h) i j (eqb-false j 0 (sym z ∙ f)), a .in-disc, a .west, a .wide, a .inner) refl
+      go false p true f z k = clash (cc)
+      go false p false f z k = rw (u, p, f, k) refl
+
+  moved-round : t ≡ true → AllRound moved
+  moved-round g = go (c .cap) refl (sym q ∙ g)
+    where
+      go : (b : Bool) → c .cap ≡ b → cond b (eqb j 0) false ≡ true → AllRound moved
+      go true p z =
+          let a = r .room .round p in
+          let m : v ≡ c .w = rw g at u in
+          record {
+            in-disc = a .in-disc;
+            west = rw (a .west, r .inmost (sym q ∙ g)) (omega arith);
+            wide = m ∙ a .wide;
+            inner = rw (a .inner, eqb-true j 0 z) (omega arith);
+          }
       go false p z = clash (cc)
 
-  parted-node : t ≡ false → nodeOf parted ≡ polarChild c s i j
-  parted-node e = go (c .cap) refl (sym q ∙ e) (r .counted)
-    where
-      go : (b : Bool) → c .cap ≡ b → cond b (eqb j 0) false ≡ false → columns ≡ cond b (s .ring) (s .columns) → nodeOf parted ≡ polarChild c s i j
-      go true p z k =
-          let a = r .room .round p in
-          rw (p, k, ring-node (c .north) _ (c .h) i j (eqb-false j 0 z), a .in-disc, a .west, a .wide, a .inner) refl
-      go false p z k = rw (p, k) refl
-
-  pub child-inmost : t ≡ true → Moved c s (ok (polarChild c s i j)) narrowed
-  child-inmost e =
-      record {
-        means = rw (r .room .good) (ap ok (narrowed-node e));
-        placed = λ g. refl;
-        sided = refl;
-        round = λ g. (let a = r .room .round g in record { in-disc = a .in-disc; west = a .west; wide = a .wide; inner = a .inner });
-      }
-
-  pub child-other : t ≡ false → Moved c s (ok (polarChild c s i j)) parted
-  child-other e =
-      record { means = rw (r .room .good) (ap ok (parted-node e)); placed = λ g. refl; sided = refl; round = λ g. clash (cc) }
+  pub child-moved : Moved c s (ok (polarChild c s i j)) moved
+  child-moved = record { means = ap ok moved-node; placed = λ g. refl; sided = refl; round = moved-round }

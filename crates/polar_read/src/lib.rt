@@ -3,8 +3,8 @@
 // What a cursor means, and what was read, stands in specs/inner/Reading.antt; what the steps ask for in specs/inner/Room.antt.
 
 ghost use mathlib.Core.Path.{_≡_};
-ghost use mathlib.Core.Bool.{true};
-ghost use Prim.Native.Nat.{ℕ, _+_, _≤_, _<_, min};
+ghost use mathlib.Core.Bool.{true, cond};
+ghost use Prim.Native.Nat.{ℕ, _+_, _/_, _≤_, _<_, min};
 ghost use lib.ListN.{length};
 ghost use Rattle.grid.specs.Units.{TURN, QUARTER};
 ghost use Rattle.grid.specs.Splits.{first, second};
@@ -172,22 +172,34 @@ impl Cursor {
         if self.inmost(r) { c == 0 } else { true }
     }
 
-    // The child in column c and row r.
-    fn child(mut self, s: Split, columns: u32, c: u32, r: u32) -> Cursor
+    // How wide a child is; the new cap goes all round, as the cap did.
+    fn width(self, columns: u32, inmost: bool) -> u32
+        requires { ⌜ 0 < columns ⌝ }
+        ensures { λ w. ⌜ w ≡ cond inmost (self .w) (self .w / columns) ⌝ }
+    {
+        if inmost { self.w } else { self.w / columns }
+    }
+
+    // The child in column c and row r, with no branch: which row is the inmost cannot be foretold, and its column and row are 0.
+    fn child(self, s: Split, columns: u32, c: u32, r: u32) -> Cursor
         requires { ⌜ ChildRoom self s columns c r ⌝ }
         ensures { λ m. ⌜ Moved self s (ok (polarChild self s c r)) m ⌝ }
     {
         let inmost = self.inmost(r);
-        self.place = self.place + s.characters;
-        self.h = self.h / s.inward;
-        if inmost {
-            return self;
+        let w = self.width(columns, inmost);
+        let h = self.h / s.inward;
+        Cursor {
+            good: true,
+            place: self.place + s.characters,
+            north: self.north,
+            cap: inmost,
+            disc: self.disc,
+            east: self.east,
+            x: self.x + c * w,
+            w,
+            y: self.y + r * h,
+            h,
         }
-        self.cap = false;
-        self.w = self.w / columns;
-        self.x = self.x + c * self.w;
-        self.y = self.y + r * self.h;
-        self
     }
 
     // The child in column c and row r, if there is one; else the character at a place is not allowed.

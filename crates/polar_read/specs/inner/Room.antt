@@ -9,7 +9,7 @@ use Rattle.grid.specs.declared.Split.{Split}
 use Rattle.grid.specs.Units.{TURN, HALF, QUARTER}
 use Rattle.grid.specs.Splits.{splitAt}
 use Rattle.polar_read.specs.declared.Cursor.{Cursor}
-use Rattle.polar_read.specs.inner.Reading.{Round, columnsOf, PolarReached}
+use Rattle.polar_read.specs.inner.Reading.{Round, columnsOf, inmostOf, PolarReached}
 
 -- the code w is as long as one of its level
 pub record OfLevel (level : ℕ) (w : List ℕ) : Type 0 where
@@ -25,12 +25,13 @@ pub record PolarRoom (c : Cursor) (s : Split) : Type 0 where
   pub high : c .y + c .h ≤ QUARTER
   pub round : Round c
 
--- and it has a child in column i and row j
+-- and it has a child in column i and row j; the new cap is in column 0
 pub record ChildRoom (c : Cursor) (s : Split) (columns i j : ℕ) : Type 0 where
   pub room : PolarRoom c s
   pub counted : columns ≡ columnsOf c s
   pub column : i < columns
   pub row : j < s .inward
+  pub inmost : inmostOf c j ≡ true → i ≡ 0
 
 -- of the code w, as long as one of its level, the levels to k were read; s is the next, of n characters
 pub record PolarReady (level k : ℕ) (s : Split) (n : ℕ) (w : List ℕ) (c : Cursor) : Type 0 where
