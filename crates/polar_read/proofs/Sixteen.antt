@@ -15,6 +15,7 @@ use Rattle.grid.specs.Characters.{digitOf}
 use Rattle.grid.specs.Tree.{Read, ok, bad, guard, follow}
 use Rattle.grid.specs.Splits.{first, second, polarCellAt}
 use Rattle.grid.specs.Plane.{Node, pole, SIXTH, polarNode}
+use Rattle.grid.specs.inner.Roads.{DigitBelow}
 use Rattle.grid.proofs.Cut.{clash}
 use Rattle.grid.proofs.Poles.{placed}
 use Rattle.polar_read.specs.declared.Cursor.{Cursor}
@@ -66,18 +67,21 @@ reached : (n : Bool) (w : List ℕ) {r : Read Node} {c : Cursor} → r ≡ soFar
 reached n w e t =
     (record { means = t .means ∙ e ∙ ap (λ (b : Bool). soFar b 2 w) (sym (t .sided)); placed = t .placed; sided = refl; round = t .round }, t .sided)
 
-module _ (n : Bool) (w : List ℕ) {at a : ℕ} (z : at ≡ first .length) (l : second .length ≤ length w) (ea : a ≡ digitOf (getD w at 0)) where
-  both : {b : ℕ} → b ≡ digitOf (getD w (at + 1) 0) → soFar n 2 w ≡ guard at (ltb a 4) (guard (at + 1) (ltb b 4) (ok (polarNode n (4 * a + b))))
-  both {b} eb =
-      let fa : a ≡ digitOf (getD w 4 0) = rw z at ea in
-      let fb : b ≡ digitOf (getD w 5 0) = rw z at eb in
-      rw z (so-far-on n 1 w (omega arith) (omega arith) (first-level n w) ∙ rw (two-digits w 4 l, ← fa, ← fb, shift-guard, shift-guard) refl)
+module _ (n : Bool) (w : List ℕ) {at a : ℕ} (z : at ≡ first .length) (l : second .length ≤ length w) (ea : DigitBelow 10 (getD w at 0) a) where
+  both : soFar n 2 w ≡ guard at (ltb (digitOf (getD w at 0)) 4) (guard (at + 1) (ltb (digitOf (getD w (at + 1) 0)) 4) (ok (polarNode n (4 * digitOf (getD w at 0) + digitOf (getD w (at + 1) 0)))))
+  both = rw z (so-far-on n 1 w (omega arith) (omega arith) (first-level n w) ∙ rw (two-digits w 4 l, shift-guard, shift-guard) refl)
 
   pub second-first : {c : Cursor} → 4 ≤ a → HasRead n (second .length) (bad at) c → PolarReached 2 w c × (c .north ≡ n)
-  second-first h t = reached n w (sym (both refl ∙ rw (le-ltb a 4 h) refl)) t
+  second-first h t = reached n w (sym (both ∙ rw (le-ltb (digitOf (getD w at 0)) 4 (omega (arith, ea .tells))) refl)) t
 
-  pub second-second : {b : ℕ} {c : Cursor} → b ≡ digitOf (getD w (at + 1) 0) → a < 4 → 4 ≤ b → HasRead n (second .length) (bad (at + 1)) c → PolarReached 2 w c × (c .north ≡ n)
-  second-second {b} eb h i t = reached n w (sym (both eb ∙ rw (lt-ltb a 4 h, le-ltb b 4 i) refl)) t
+  module _ {b : ℕ} (eb : DigitBelow 10 (getD w (at + 1) 0) b) (h : a < 4) where
+    fa : a ≡ digitOf (getD w at 0)
+    fa = omega (arith, ea .tells)
 
-  pub second-both : {b : ℕ} {c : Cursor} → b ≡ digitOf (getD w (at + 1) 0) → a < 4 → b < 4 → HasRead n (second .length) (ok (polarNode n (4 * a + b))) c → PolarReached 2 w c × (c .north ≡ n)
-  second-both {b} eb h i t = reached n w (sym (both eb ∙ rw (lt-ltb a 4 h, lt-ltb b 4 i) refl)) t
+    pub second-second : {c : Cursor} → 4 ≤ b → HasRead n (second .length) (bad (at + 1)) c → PolarReached 2 w c × (c .north ≡ n)
+    second-second i t = reached n w (sym (both ∙ rw (← fa, lt-ltb a 4 h, le-ltb (digitOf (getD w (at + 1) 0)) 4 (omega (arith, eb .tells))) refl)) t
+
+    pub second-both : {c : Cursor} → b < 4 → HasRead n (second .length) (ok (polarNode n (4 * a + b))) c → PolarReached 2 w c × (c .north ≡ n)
+    second-both i t =
+        let fb : b ≡ digitOf (getD w (at + 1) 0) = omega (arith, eb .tells) in
+        reached n w (sym (both ∙ rw (← fa, ← fb, lt-ltb a 4 h, lt-ltb b 4 i) refl)) t

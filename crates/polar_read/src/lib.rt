@@ -11,7 +11,7 @@ ghost use Rattle.grid.specs.Splits.{first, second};
 ghost use Rattle.grid.specs.Tree.{ok, bad};
 ghost use Rattle.grid.specs.Answers.{planeRead};
 ghost use Rattle.grid.specs.Plane.{pole, allowed, longitudeAt, leastFromPole, cellAt, polarNode};
-ghost use Rattle.grid.specs.inner.Roads.{laterRead};
+ghost use Rattle.grid.specs.inner.Roads.{DigitBelow, laterRead};
 ghost use Rattle.polar_read.specs.inner.Reading.{nodeOf, polarReading, startOf, Round, HasRead, Moved, PolarReached, polarAnswer};
 ghost use Rattle.polar_read.specs.inner.Reading.{columnsOf, inmostOf, divided, polarChild, settledOf, polarStep};
 ghost use Rattle.polar_read.specs.inner.Room.{OfLevel, Whole, PolarRoom, ChildRoom, PolarReady};
@@ -44,6 +44,18 @@ fn least_from_pole(north: bool, q: u32, n: u32) -> i32
         grid::number_on(true, grid::QUARTER - (q + n))
     } else {
         grid::number_on(false, grid::QUARTER - 1 - q)
+    }
+}
+
+// A character's digit, as far as a test against the limit can tell. The limits are the table's, so one of the two folds away.
+fn digit_below(limit: u32, b: u8) -> u32
+    requires { ⌜ limit ≤ 32 ⌝ }
+    ensures { λ r. ⌜ DigitBelow limit b r ⌝ }
+{
+    if limit <= 10 {
+        grid::decimal_value(b)
+    } else {
+        grid::value(b)
     }
 }
 
@@ -133,11 +145,11 @@ impl Cursor {
         ensures { λ r. ⌜ PolarReached 2 (now (code .entry)) r × (r .north ≡ self .north) ⌝ }
     {
         let at = self.place;
-        let a = grid::digit(code[at]);
+        let a = grid::decimal_value(code[at]);
         if 4 <= a {
             return self.stopped(at);
         }
-        let b = grid::digit(code[at + 1]);
+        let b = grid::decimal_value(code[at + 1]);
         if 4 <= b {
             return self.stopped(at + 1);
         }
@@ -219,13 +231,13 @@ impl Cursor {
         requires { ⌜ PolarRoom self s × (s .characters ≡ 2) × (self .place + 2 ≤ length (now code)) ⌝ }
         ensures { λ m. ⌜ Moved self s (polarStep self s (now (code .entry))) m ⌝ }
     {
-        let at = self.place;
+        let at = s.length - 2;
         let columns = self.columns(s);
-        let a = grid::digit(code[at]);
+        let a = digit_below(columns, code[at]);
         if columns <= a {
             return self.stopped(at);
         }
-        let b = grid::digit(code[at + 1]);
+        let b = digit_below(s.inward, code[at + 1]);
         self.settled(s, columns, a, b, at + 1)
     }
 
@@ -234,9 +246,9 @@ impl Cursor {
         requires { ⌜ PolarRoom self s × (s .characters ≡ 1) × (self .place + 1 ≤ length (now code)) ⌝ }
         ensures { λ m. ⌜ Moved self s (polarStep self s (now (code .entry))) m ⌝ }
     {
-        let at = self.place;
+        let at = s.length - 1;
         let columns = self.columns(s);
-        let a = grid::digit(code[at]);
+        let a = grid::decimal_value(code[at]);
         if columns == 2 {
             return self.settled(s, columns, a % 2, a / 2, at);
         }
