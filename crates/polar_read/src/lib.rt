@@ -4,7 +4,7 @@
 
 ghost use mathlib.Core.Path.{_≡_};
 ghost use mathlib.Core.Bool.{true, cond};
-ghost use Prim.Native.Nat.{ℕ, _+_, _/_, _≤_, _<_, min};
+ghost use Prim.Native.Nat.{ℕ, _+_, _≤_, _<_, min};
 ghost use lib.ListN.{length};
 ghost use Rattle.grid.specs.Units.{TURN, QUARTER};
 ghost use Rattle.grid.specs.Splits.{first, second};
@@ -45,6 +45,13 @@ fn least_from_pole(north: bool, q: u32, n: u32) -> i32
     } else {
         grid::number_on(false, grid::QUARTER - 1 - q)
     }
+}
+
+// One of two numbers, which compiles to no branch.
+fn pick(first: bool, a: u32, b: u32) -> u32
+    ensures { λ r. ⌜ r ≡ cond first a b ⌝ }
+{
+    if first { a } else { b }
 }
 
 // A character's digit, as far as a test against the limit can tell. The limits are the table's, so one of the two folds away.
@@ -108,35 +115,32 @@ impl Cursor {
         self
     }
 
-    // The polar cell k of level 2: 0 is the cap, 1 to 3 lie in the disc, the others in the belt.
+    // The polar cell k of level 2: 0 is the cap, 1 to 3 lie in the disc, the others in the belt. With no branch: k cannot be foretold.
     fn polar(self, k: u32) -> Cursor
         requires { ⌜ k < 16 ⌝ }
         ensures { λ r. ⌜ HasRead (self .north) (second .length) (ok (polarNode (self .north) k)) r ⌝ }
     {
         let p = grid::polar_cell(k as usize);
         let s = grid::split_of(1);
-        let mut next = Cursor::start(self.north);
-        next.place = s.length;
-        next.h = next.h / s.inward;
-        if k == 0 {
-            return next;
+        let start = Cursor::start(self.north);
+        let h = start.h / s.inward;
+        let disc = k < 4;
+        let east = p.west < grid::HALF;
+        let from_pole = grid::QUARTER - p.low - h;
+        let outward = pick(east, p.west, grid::TURN - p.west - SIXTH);
+        let sector = pick(disc, grid::TURN / s.ring, SIXTH);
+        Cursor {
+            good: true,
+            place: s.length,
+            north: self.north,
+            cap: k == 0,
+            disc,
+            east,
+            x: pick(disc, p.west, outward),
+            w: pick(k == 0, start.w, sector),
+            y: pick(disc, from_pole, p.low),
+            h,
         }
-        next.cap = false;
-        next.x = p.west;
-        next.y = p.low;
-        if k < 4 {
-            next.w = grid::TURN / s.ring;
-            next.y = grid::QUARTER - p.low - next.h;
-            return next;
-        }
-        next.disc = false;
-        next.w = SIXTH;
-        if p.west < grid::HALF {
-            return next;
-        }
-        next.east = false;
-        next.x = grid::TURN - p.west - SIXTH;
-        next
     }
 
     // Level 2: two digits below 4 name one of the sixteen polar cells.
@@ -184,21 +188,13 @@ impl Cursor {
         if self.inmost(r) { c == 0 } else { true }
     }
 
-    // How wide a child is; the new cap goes all round, as the cap did.
-    fn width(self, columns: u32, inmost: bool) -> u32
-        requires { ⌜ 0 < columns ⌝ }
-        ensures { λ w. ⌜ w ≡ cond inmost (self .w) (self .w / columns) ⌝ }
-    {
-        if inmost { self.w } else { self.w / columns }
-    }
-
     // The child in column c and row r, with no branch: which row is the inmost cannot be foretold, and its column and row are 0.
     fn child(self, s: Split, columns: u32, c: u32, r: u32) -> Cursor
         requires { ⌜ ChildRoom self s columns c r ⌝ }
         ensures { λ m. ⌜ Moved self s (ok (polarChild self s c r)) m ⌝ }
     {
         let inmost = self.inmost(r);
-        let w = self.width(columns, inmost);
+        let w = pick(inmost, self.w, self.w / columns);
         let h = self.h / s.inward;
         Cursor {
             good: true,

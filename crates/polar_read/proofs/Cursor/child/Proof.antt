@@ -13,31 +13,44 @@ along s = part-end _ _ _ (s .pre .row)
 inmost-requires : tie.Need-inmost-requires
 inmost-requires c κs = search needs
 
-width-requires : tie.Need-width-requires
-width-requires c κs = search needs
+div-pick : tie.Need-div-pick
+div-pick c = search needs
+
+pick-requires : tie.Need-pick-requires
+pick-requires c κs = search needs
 
 div-h : tie.Need-div-h
 div-h c = search needs
 
-add-t9 : tie.Need-add-t9
-add-t9 c = search needs
+add-t10 : tie.Need-add-t10
+add-t10 c = search needs
 
-mul-t10 : tie.Need-mul-t10
-mul-t10 c = let s = c .before .before .before .before .before .before in record { fits = omega (arith, across _ _ (c .before .before .before .before .before .before .pre) (c .before .before .before .before .before .inmost .ensures) (c .before .before .before .before .width .ensures), s .pre .room .wide) }
+mul-t9 : tie.Need-mul-t9
+mul-t9 c = let s = c .before .before .before .before .before .before .before in record { fits = omega (arith, across _ _ (c .before .before .before .before .before .before .before .pre) (c .before .before .before .before .before .before .inmost .ensures) (c .before .before .before .before .pick .ensures), s .pre .room .wide) }
 
 add-t11 : tie.Need-add-t11
-add-t11 c = let s = c .before .before .before .before .before .before .before in record { fits = omega (arith, across _ _ (c .before .before .before .before .before .before .before .pre) (c .before .before .before .before .before .before .inmost .ensures) (c .before .before .before .before .before .width .ensures), s .pre .room .wide) }
+add-t11 c = let s = c .before .before .before .before .before .before .before .before in record { fits = omega (arith, across _ _ (c .before .before .before .before .before .before .before .before .pre) (c .before .before .before .before .before .before .before .inmost .ensures) (c .before .before .before .before .before .pick .ensures), s .pre .room .wide) }
 
 mul-t12 : tie.Need-mul-t12
-mul-t12 c = let s = c .before .before .before .before .before .before .before in record { fits = omega (arith, along s, s .pre .room .high) }
+mul-t12 c = let s = c .before .before .before .before .before .before .before .before in record { fits = omega (arith, along s, s .pre .room .high) }
 
 add-t13 : tie.Need-add-t13
-add-t13 c = let s = c .before .before .before .before .before .before .before .before in record { fits = omega (arith, along s, s .pre .room .high) }
+add-t13 c = let s = c .before .before .before .before .before .before .before .before .before in record { fits = omega (arith, along s, s .pre .room .high) }
 
 returns : tie.Need-returns
-returns c = child-moved _ _ (c .before .before .before .before .before .before .before .before .pre) (c .before .before .before .before .before .before .before .inmost .ensures) (c .before .before .before .before .before .before .width .ensures)
+returns c = child-moved _ _ (c .before .before .before .before .before .before .before .before .before .pre) (c .before .before .before .before .before .before .before .before .inmost .ensures) (c .before .before .before .before .before .before .pick .ensures)
 
 pub child-spec : {M : Type 1} → statement M
 child-spec =
     tie.close
-    (tie.spec inmost-requires width-requires div-h add-t9 mul-t10 add-t11 mul-t12 add-t13 returns)
+    (tie.spec
+    inmost-requires
+    div-pick
+    pick-requires
+    div-h
+    add-t10
+    mul-t9
+    add-t11
+    mul-t12
+    add-t13
+    returns)
