@@ -3,10 +3,10 @@
 use mathlib.Core.Path.{_≡_, refl, sym, _∙_, ap, subst}
 use mathlib.Core.Bool.{Bool, true, false, not, cond, _||_}
 use Prim.Native.Nat.{ℕ, zero, suc, _+_, _*_, _/_, _≤_, _<_}
-use native.Mathlib.Nat.{div-mul-le-self, mul-comm}
+use native.Mathlib.Nat.{div-mul-le-self, mul-comm, mul-le-mul-right}
 use native.Mathlib.Omega.{arith}
-use lib.Dec.{ltb, eqb}
-use borrow.Author.Tests.{lt-ltb, le-ltb, eqb-true, eqb-false, ne-eqb}
+use lib.Dec.{ltb, eqb, leb}
+use borrow.Author.Tests.{lt-ltb, le-ltb, le-leb, lt-leb, eqb-true, eqb-false}
 use Rattle.grid.specs.declared.Split.{Split}
 use Rattle.grid.specs.Tree.{Read, ok, bad}
 use Rattle.grid.specs.Plane.{allowed, Part, Node, cell, disc, sub, round, ringNode}
@@ -22,10 +22,19 @@ reads-as {n} {at} {c = c} e t = subst (λ (x : Read Node). HasRead n at x c) e t
 
 -- ---- which children there are
 
-last-test : (inner : Bool) (i j : ℕ) → (not inner || (ltb 0 j || eqb i 0)) ≡ cond (cond inner (eqb j 0) false) (eqb i 0) true
-last-test false i j = refl
-last-test true i zero = refl
-last-test true i (suc j) = rw (lt-ltb 0 (suc j) (omega arith), ne-eqb (suc j) 0 (λ e. omega arith)) refl
+-- in a cap column i of row j is allowed where i is at most j times the columns: column 0 alone in row 0, and each in the others
+last-test : (inner : Bool) (i j columns : ℕ) → i < columns → leb (cond inner i 0) (j * columns) ≡ (not inner || (ltb 0 j || eqb i 0))
+last-test false i j columns h = le-leb 0 (j * columns) (omega arith)
+last-test true i zero columns h = go (eqb i 0) refl
+  where
+    go : (q : Bool) → eqb i 0 ≡ q → leb i (0 * columns) ≡ eqb i 0
+    go true q = rw (q, eqb-true i 0 q) (le-leb 0 (0 * columns) (omega arith))
+    go false q = let n : ¬ (i ≡ 0) = eqb-false i 0 q in rw q (lt-leb i (0 * columns) (omega arith))
+last-test true i (suc j) columns h =
+    rw (lt-ltb 0 (suc j) (omega arith)) (le-leb i (suc j * columns) (omega (arith, mul-le-mul-right columns (one-le j))))
+  where
+    one-le : (k : ℕ) → 1 ≤ suc k
+    one-le k = omega arith
 
 module _ (c : Cursor) (s : Split) {columns : ℕ} (e : columns ≡ columnsOf c s) (i j : ℕ) where
   pub no-column : columns ≤ i → false ≡ allowed (c .cap) (divided c s) i j
@@ -34,14 +43,18 @@ module _ (c : Cursor) (s : Split) {columns : ℕ} (e : columns ≡ columnsOf c s
   pub no-row : i < columns → s .inward ≤ j → false ≡ allowed (c .cap) (divided c s) i j
   no-row l h = rw (← e, lt-ltb i columns l, le-ltb j (s .inward) h)
 
-  pub a-child : {t : Bool} → i < columns → j < s .inward → t ≡ inmostOf c j → cond t (eqb i 0) true ≡ allowed (c .cap) (divided c s) i j
-  a-child l h q = rw (← e, lt-ltb i columns l, lt-ltb j (s .inward) h, q) (sym (last-test (c .cap) i j))
+  pub a-child : {v : ℕ} → i < columns → j < s .inward → v ≡ cond (c .cap) i 0 → leb v (j * columns) ≡ allowed (c .cap) (divided c s) i j
+  a-child l h q = rw (← e, lt-ltb i columns l, lt-ltb j (s .inward) h, q) (last-test (c .cap) i j columns l)
+
+-- row 0 of a cap
+inmost-of : (b : Bool) (j : ℕ) → cond b (eqb j 0) false ≡ true → (b ≡ true) × (j ≡ 0)
+inmost-of true j e = (refl, eqb-true j 0 e)
+inmost-of false j e = clash (cc)
 
 pub child-room : (c : Cursor) (s : Split) {columns : ℕ} (i j : ℕ) {t : Bool} → PolarRoom c s → columns ≡ columnsOf c s → t ≡ allowed (c .cap) (divided c s) i j → t ≡ true → ChildRoom c s columns i j
 child-room c s i j r e q h =
     let a = allowed-of (c .cap) (divided c s) i j (sym q ∙ h) in
-    let l : cond (inmostOf c j) (eqb i 0) true ≡ true = a-child c s refl i j (a .col) (a .row) refl ∙ sym q ∙ h in
-    record { room = r; counted = e; column = omega (arith, e, a .col); row = a .row; inmost = λ g. eqb-true i 0 (rw g at l) }
+    record { room = r; counted = e; column = omega (arith, e, a .col); row = a .row; inmost = λ g. (let t = inmost-of (c .cap) j g in a .first (t .0) (t .1)) }
 
 -- the child where there is one, and else the place
 module _ (c : Cursor) (s : Split) (i j at : ℕ) {t : Bool} (q : t ≡ allowed (c .cap) (divided c s) i j) {m : Cursor} where

@@ -174,9 +174,10 @@ impl Cursor {
         if self.cap { r == 0 } else { false }
     }
 
-    // The cell has a child in column c and row r; the new cap has column 0 only.
+    // The cell has a child in column c and row r; the new cap has column 0 only: in a cap a column is at most the row times the columns.
+    // With no branch on the cap.
     fn allows(self, s: Split, columns: u32, c: u32, r: u32) -> bool
-        requires { ⌜ columns ≡ columnsOf self s ⌝ }
+        requires { ⌜ PolarRoom self s × (columns ≡ columnsOf self s) ⌝ }
         ensures { λ t. ⌜ t ≡ allowed (self .cap) (divided self s) c r ⌝ }
     {
         if columns <= c {
@@ -185,7 +186,7 @@ impl Cursor {
         if s.inward <= r {
             return false;
         }
-        if self.inmost(r) { c == 0 } else { true }
+        pick(self.cap, c, 0) <= r * columns
     }
 
     // The child in column c and row r, with no branch: which row is the inmost cannot be foretold, and its column and row are 0.
