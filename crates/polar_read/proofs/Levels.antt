@@ -3,7 +3,7 @@
 use mathlib.Core.Path.{_≡_, refl, sym, _∙_, ap, subst}
 use mathlib.Core.Bool.{Bool, true, false, _&&_}
 use mathlib.Core.List.{List}
-use Prim.Native.Nat.{ℕ, suc, _+_, _-_, _≤_, _<_, min}
+use Prim.Native.Nat.{ℕ, suc, _+_, _-_, _*_, _≤_, _<_, min}
 use native.Mathlib.Omega.{arith}
 use lib.Dec.{ltb, eqb, leb}
 use lib.IntN.{ℤ}
@@ -18,17 +18,31 @@ use Rattle.grid.specs.Codes.{answer}
 use Rattle.grid.specs.Splits.{splits, splitAt}
 use Rattle.grid.specs.Plane.{Node, pole, least, longitudeAt, leastFromPole, cellFrom, cellAt, planeCodes}
 use Rattle.grid.specs.inner.Roads.{laterRead}
-use Rattle.grid.proofs.Cut.{clash, and-true}
+use Rattle.grid.proofs.Cut.{clash, and-true, below}
 use Rattle.grid.proofs.Lengths.{adds, grows}
 use Rattle.grid.proofs.PlaneLaws.{Good, GoodCell, GoodCap, cell-positive, cap-positive, limX, limY}
 use Rattle.polar_read.specs.declared.Cursor.{Cursor}
 use Rattle.polar_read.specs.inner.Reading.{frameOf, polarBox, nodeOf, polarReading, startOf, Round, HasRead, polarStep, soFar, PolarReached, polarAnswer}
-use Rattle.polar_read.specs.inner.Room.{OfLevel, PolarRoom, PolarReady, Whole}
+use Rattle.polar_read.specs.inner.Room.{OfLevel, PolarDigits, PolarRoom, PolarReady, Whole}
 use Rattle.polar_read.proofs.SoFar.{so-far-on, so-far-bad, so-far-good}
 
 -- a level's characters follow those before
 follows : (k : ℕ) → 1 ≤ k → k < 10 → splitAt (k - 1) .length + splitAt k .characters ≡ splitAt k .length
 follows k a b = let e : suc (k - 1) ≡ k = omega arith in rw e at (adds (k - 1) (omega arith))
+
+-- the table's columns and rows are no more than a level's characters can name
+digits-at : (k : ℕ) → 1 ≤ k → k < 10 → PolarDigits (splitAt k)
+digits-at k a b =
+    let e : k - 1 + 1 ≡ k = omega arith in
+    let t = and-true (leb (splitAt (k - 1 + 1) .columns) (most (k - 1 + 1))) _ (below few 9 (k - 1) refl (omega arith)) in
+    let u = and-true (leb (splitAt (k - 1 + 1) .ring) (most (k - 1 + 1))) _ (t .1) in
+    subst (λ (j : ℕ). PolarDigits (splitAt j)) e (record { columns = leb-true _ _ (t .0); ring = leb-true _ _ (u .0); inward = leb-true _ _ (u .1) })
+  where
+    most : ℕ → ℕ
+    most i = 10 * splitAt i .characters - 5
+
+    few : ℕ → Bool
+    few i = leb (splitAt (i + 1) .columns) (most (i + 1)) && (leb (splitAt (i + 1) .ring) (most (i + 1)) && leb (splitAt (i + 1) .inward) (most (i + 1)))
 
 -- ---- a good cell lies on the globe and is not empty
 
@@ -114,7 +128,9 @@ module _ {level k n : ℕ} {s : Split} {w : List ℕ} {c : Cursor} (r : PolarRea
       level-room =
           let o = whole k w c (r .later) (omega (arith, r .last)) at-level g in
           let l : splitAt k .length ≤ 20 = grows k 9 (omega (arith, r .last)) (omega arith) in
-          record { good = g; near = omega (arith, starts); wide = wide-of c o; high = o .high; round = at-level .round }
+          let z : s .length ≡ splitAt k .length = ap (λ (t : Split). t .length) (r .table) in
+          let d = subst PolarDigits (sym (r .table)) (digits-at k (r .later) (r .last)) in
+          record { good = g; next = starts ∙ sym z; near = omega arith; digits = d; wide = wide-of c o; high = o .high; round = at-level .round }
 
       pub level-long : c .place + n ≤ length w
       level-long =

@@ -1,20 +1,23 @@
 -- Where one level's characters lead from a cursor's cell, in the terms of the code that reads them.
 -- Assumes nothing.
-use mathlib.Core.Path.{_≡_, refl, sym, _∙_}
+use mathlib.Core.Path.{_≡_, refl, sym, _∙_, ap}
 use mathlib.Core.Bool.{Bool, true, false}
 use mathlib.Core.List.{List, [], _∷_, map}
-use Prim.Native.Nat.{ℕ, _+_, _-_, _/_, _%_, _≤_, _<_, min}
+use Prim.Native.Nat.{ℕ, _+_, _-_, _*_, _/_, _%_, _≤_, _<_, min}
 use native.Mathlib.Nat.{add-zero}
+use native.Mathlib.Omega.{arith}
 use lib.Dec.{ltb, eqb}
 use lib.ListN.{length, getD, take, drop}
-use borrow.Author.Tests.{le-ltb, lt-ltb, ne-eqb}
+use borrow.Author.Tests.{le-ltb, lt-ltb, ltb-true, ltb-false, ne-eqb}
 use Rattle.grid.specs.declared.Split.{Split}
 use Rattle.grid.specs.Characters.{digitOf}
 use Rattle.grid.specs.Tree.{Read, bad, guard, shift}
 use Rattle.grid.specs.Plane.{readAs, formOf, childOf, nearPole}
+use Rattle.grid.specs.inner.Roads.{DigitBelow}
 use Rattle.grid.proofs.Lists.{take-map, drop-map, map-one, map-two}
 use Rattle.polar_read.specs.declared.Cursor.{Cursor}
 use Rattle.polar_read.specs.inner.Reading.{nodeOf, frameOf, columnsOf, divided, polarChild, settledOf, polarStep}
+use Rattle.polar_read.specs.inner.Room.{PolarDigits}
 
 -- ---- the digits of a level
 
@@ -44,32 +47,69 @@ pub shift-guard : {A : Type 0} (at p : ℕ) (b : Bool) (r : Read A) → shift at
 shift-guard at p true r = refl
 shift-guard at p false r = refl
 
-module _ (c : Cursor) (s : Split) (w : List ℕ) {columns : ℕ} (e : columns ≡ columnsOf c s) where
-  step-two : {a b : ℕ} → s .characters ≡ 2 → c .place + 2 ≤ length w → a ≡ digitOf (getD w (c .place) 0) → b ≡ digitOf (getD w (c .place + 1) 0)
-      → polarStep c s w ≡ guard (c .place) (ltb a columns) (settledOf c s a b (c .place + 1))
+-- ---- digits as far as a test can tell
+
+-- no child: the column is too large, or else the row
+settled-none : (c : Cursor) (s : Split) (i j at : ℕ) → (i < columnsOf c s → s .inward ≤ j) → settledOf c s i j at ≡ bad at
+settled-none c s i j at h = go (ltb i (columnsOf c s)) refl
+  where
+    go : (q : Bool) → ltb i (columnsOf c s) ≡ q → settledOf c s i j at ≡ bad at
+    go true q = rw (q, le-ltb j (s .inward) (h (ltb-true _ _ q))) refl
+    go false q = rw q refl
+
+-- column f and row g of what tells a digit below m serve as those of the digit, where from m on there is no child
+settled-told : {m b r : ℕ} (c : Cursor) (s : Split) (at : ℕ) (f g : ℕ → ℕ) → DigitBelow m b r → ((v : ℕ) → m ≤ v → f v < columnsOf c s → s .inward ≤ g v)
+    → settledOf c s (f r) (g r) at ≡ settledOf c s (f (digitOf b)) (g (digitOf b)) at
+settled-told {m} {b} {r} c s at f g e h = go (ltb r m) refl
+  where
+    go : (q : Bool) → ltb r m ≡ q → settledOf c s (f r) (g r) at ≡ settledOf c s (f (digitOf b)) (g (digitOf b)) at
+    go true q =
+        let l : r < m = ltb-true _ _ q in
+        let t : r ≡ digitOf b = omega (arith, e .tells) in
+        ap (λ (x : ℕ). settledOf c s (f x) (g x) at) t
+    go false q =
+        let l : m ≤ r = ltb-false _ _ q in
+        let k : m ≤ digitOf b = omega (arith, e .tells) in
+        settled-none c s (f r) (g r) at (h r l) ∙ sym (settled-none c s (f (digitOf b)) (g (digitOf b)) at (h (digitOf b) k))
+
+-- the columns are no more than the level's characters can name
+pub columns-most : (c : Cursor) (s : Split) {columns : ℕ} → columns ≡ columnsOf c s → PolarDigits s → columns ≤ 10 * s .characters - 5
+columns-most c s e d = rw e (go (c .cap) refl)
+  where
+    go : (b : Bool) → c .cap ≡ b → columnsOf c s ≤ 10 * s .characters - 5
+    go true p = rw p (d .ring)
+    go false p = rw p (d .columns)
+
+module _ (c : Cursor) (s : Split) (w : List ℕ) {columns : ℕ} (e : columns ≡ columnsOf c s) {at : ℕ} (z : at ≡ c .place) where
+  step-two : s .characters ≡ 2 → c .place + 2 ≤ length w
+      → polarStep c s w ≡ guard at (ltb (digitOf (getD w at 0)) columns) (settledOf c s (digitOf (getD w at 0)) (digitOf (getD w (at + 1) 0)) (at + 1))
   unfolding polarStep
-  step-two {a} {b} n l ea eb =
-      rw (child-as, n, two-digits w (c .place) l, ← ea, ← eb, ← e, shift-guard, shift-guard, add-zero) refl
+  step-two n l = rw (child-as, n, ← z, two-digits w at (omega arith), ← e, shift-guard, shift-guard, add-zero) refl
 
   -- two characters: the first is no column; or both are read
-  pub two-no : {a : ℕ} → s .characters ≡ 2 → c .place + 2 ≤ length w → a ≡ digitOf (getD w (c .place) 0) → columns ≤ a → bad (c .place) ≡ polarStep c s w
-  two-no {a} n l ea h = rw (step-two n l ea refl, le-ltb a columns h) refl
+  pub two-no : {a : ℕ} → s .characters ≡ 2 → c .place + 2 ≤ length w → DigitBelow columns (getD w at 0) a → columns ≤ a → bad at ≡ polarStep c s w
+  two-no {a} n l ea h = rw (step-two n l, le-ltb (digitOf (getD w at 0)) columns (omega (arith, ea .tells))) refl
 
-  pub two-on : {a b : ℕ} → s .characters ≡ 2 → c .place + 2 ≤ length w → a ≡ digitOf (getD w (c .place) 0) → b ≡ digitOf (getD w (c .place + 1) 0) → a < columns
-      → settledOf c s a b (c .place + 1) ≡ polarStep c s w
-  two-on {a} n l ea eb h = rw (step-two n l ea eb, lt-ltb a columns h) refl
+  pub two-on : {a b : ℕ} → s .characters ≡ 2 → c .place + 2 ≤ length w → DigitBelow columns (getD w at 0) a → DigitBelow (s .inward) (getD w (at + 1) 0) b → a < columns
+      → settledOf c s a b (at + 1) ≡ polarStep c s w
+  two-on {a} n l ea eb h =
+      let f : a ≡ digitOf (getD w at 0) = omega (arith, ea .tells) in
+      settled-told c s (at + 1) (λ v. a) (λ v. v) eb (λ v k i. k) ∙ rw (step-two n l, ← f, lt-ltb a columns h) refl
 
   -- one character, in two columns or in more
-  pub one-quad : {a : ℕ} → s .characters ≡ 1 → c .place + 1 ≤ length w → a ≡ digitOf (getD w (c .place) 0) → columns ≡ 2
-      → settledOf c s (a % 2) (a / 2) (c .place) ≡ polarStep c s w
+  pub one-quad : {a : ℕ} → PolarDigits s → s .characters ≡ 1 → c .place + 1 ≤ length w → DigitBelow 10 (getD w at 0) a → columns ≡ 2
+      → settledOf c s (a % 2) (a / 2) at ≡ polarStep c s w
   unfolding polarStep
-  one-quad {a} n l ea k =
+  one-quad {a} d n l ea k =
       let k2 : columnsOf c s ≡ 2 = sym e ∙ k in
-      rw (child-as, n, one-digit w (c .place) l, ← ea, k2, shift-guard, add-zero) refl
+      settled-told c s at (λ v. v % 2) (λ v. v / 2) ea (λ v i j. omega (arith, d .inward))
+      ∙ rw (child-as, n, ← z, one-digit w at (omega arith), k2, shift-guard, add-zero) refl
 
-  pub one-trio : {a i j : ℕ} → s .characters ≡ 1 → c .place + 1 ≤ length w → a ≡ digitOf (getD w (c .place) 0) → (columns ≡ 2 → ⊥) → a - 1 ≡ i → min a 1 ≡ j
-      → settledOf c s i j (c .place) ≡ polarStep c s w
+  pub one-trio : {a i j : ℕ} → PolarDigits s → s .characters ≡ 1 → c .place + 1 ≤ length w → DigitBelow 10 (getD w at 0) a → (columns ≡ 2 → ⊥) → a - 1 ≡ i → min a 1 ≡ j
+      → settledOf c s i j at ≡ polarStep c s w
   unfolding polarStep
-  one-trio {a} {i} {j} n l ea k ei ej =
+  one-trio {a} {i} {j} d n l ea k ei ej =
       let k2 : eqb (columnsOf c s) 2 ≡ false = ne-eqb (columnsOf c s) 2 (λ z. k (e ∙ z)) in
-      rw (child-as, n, one-digit w (c .place) l, ← ea, k2, ei, ej, shift-guard, add-zero) refl
+      let t = settled-told c s at (λ v. v - 1) (λ v. min v 1) ea (λ v x y. absurd (omega (arith, columns-most c s refl d))) in
+      let u : settledOf c s i j at ≡ settledOf c s (a - 1) (min a 1) at = rw (ei, ej) refl in
+      u ∙ t ∙ rw (child-as, n, ← z, one-digit w at (omega arith), k2, shift-guard, add-zero) refl

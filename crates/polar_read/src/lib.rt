@@ -3,7 +3,7 @@
 // What a cursor means, and what was read, stands in specs/inner/Reading.antt; what the steps ask for in specs/inner/Room.antt.
 
 ghost use mathlib.Core.Path.{_≡_};
-ghost use mathlib.Core.Bool.{true};
+ghost use mathlib.Core.Bool.{true, cond};
 ghost use Prim.Native.Nat.{ℕ, _+_, _≤_, _<_, min};
 ghost use lib.ListN.{length};
 ghost use Rattle.grid.specs.Units.{TURN, QUARTER};
@@ -11,7 +11,7 @@ ghost use Rattle.grid.specs.Splits.{first, second};
 ghost use Rattle.grid.specs.Tree.{ok, bad};
 ghost use Rattle.grid.specs.Answers.{planeRead};
 ghost use Rattle.grid.specs.Plane.{pole, allowed, longitudeAt, leastFromPole, cellAt, polarNode};
-ghost use Rattle.grid.specs.inner.Roads.{laterRead};
+ghost use Rattle.grid.specs.inner.Roads.{DigitBelow, laterRead};
 ghost use Rattle.polar_read.specs.inner.Reading.{nodeOf, polarReading, startOf, Round, HasRead, Moved, PolarReached, polarAnswer};
 ghost use Rattle.polar_read.specs.inner.Reading.{columnsOf, inmostOf, divided, polarChild, settledOf, polarStep};
 ghost use Rattle.polar_read.specs.inner.Room.{OfLevel, Whole, PolarRoom, ChildRoom, PolarReady};
@@ -44,6 +44,25 @@ fn least_from_pole(north: bool, q: u32, n: u32) -> i32
         grid::number_on(true, grid::QUARTER - (q + n))
     } else {
         grid::number_on(false, grid::QUARTER - 1 - q)
+    }
+}
+
+// One of two numbers, which compiles to no branch.
+fn pick(first: bool, a: u32, b: u32) -> u32
+    ensures { λ r. ⌜ r ≡ cond first a b ⌝ }
+{
+    if first { a } else { b }
+}
+
+// A character's digit, as far as a test against the limit can tell. The limits are the table's, so one of the two folds away.
+fn digit_below(limit: u32, b: u8) -> u32
+    requires { ⌜ limit ≤ 32 ⌝ }
+    ensures { λ r. ⌜ DigitBelow limit b r ⌝ }
+{
+    if limit <= 10 {
+        grid::decimal_value(b)
+    } else {
+        grid::value(b)
     }
 }
 
@@ -96,35 +115,32 @@ impl Cursor {
         self
     }
 
-    // The polar cell k of level 2: 0 is the cap, 1 to 3 lie in the disc, the others in the belt.
+    // The polar cell k of level 2: 0 is the cap, 1 to 3 lie in the disc, the others in the belt. With no branch: k cannot be foretold.
     fn polar(self, k: u32) -> Cursor
         requires { ⌜ k < 16 ⌝ }
         ensures { λ r. ⌜ HasRead (self .north) (second .length) (ok (polarNode (self .north) k)) r ⌝ }
     {
         let p = grid::polar_cell(k as usize);
         let s = grid::split_of(1);
-        let mut next = Cursor::start(self.north);
-        next.place = s.length;
-        next.h = next.h / s.inward;
-        if k == 0 {
-            return next;
+        let start = Cursor::start(self.north);
+        let h = start.h / s.inward;
+        let disc = k < 4;
+        let east = p.west < grid::HALF;
+        let from_pole = grid::QUARTER - p.low - h;
+        let outward = pick(east, p.west, grid::TURN - p.west - SIXTH);
+        let sector = pick(disc, grid::TURN / s.ring, SIXTH);
+        Cursor {
+            good: true,
+            place: s.length,
+            north: self.north,
+            cap: k == 0,
+            disc,
+            east,
+            x: pick(disc, p.west, outward),
+            w: pick(k == 0, start.w, sector),
+            y: pick(disc, from_pole, p.low),
+            h,
         }
-        next.cap = false;
-        next.x = p.west;
-        next.y = p.low;
-        if k < 4 {
-            next.w = grid::TURN / s.ring;
-            next.y = grid::QUARTER - p.low - next.h;
-            return next;
-        }
-        next.disc = false;
-        next.w = SIXTH;
-        if p.west < grid::HALF {
-            return next;
-        }
-        next.east = false;
-        next.x = grid::TURN - p.west - SIXTH;
-        next
     }
 
     // Level 2: two digits below 4 name one of the sixteen polar cells.
@@ -133,11 +149,11 @@ impl Cursor {
         ensures { λ r. ⌜ PolarReached 2 (now (code .entry)) r × (r .north ≡ self .north) ⌝ }
     {
         let at = self.place;
-        let a = grid::digit(code[at]);
+        let a = grid::decimal_value(code[at]);
         if 4 <= a {
             return self.stopped(at);
         }
-        let b = grid::digit(code[at + 1]);
+        let b = grid::decimal_value(code[at + 1]);
         if 4 <= b {
             return self.stopped(at + 1);
         }
@@ -158,9 +174,10 @@ impl Cursor {
         if self.cap { r == 0 } else { false }
     }
 
-    // The cell has a child in column c and row r; the new cap has column 0 only.
+    // The cell has a child in column c and row r; the new cap has column 0 only: in a cap a column is at most the row times the columns.
+    // With no branch on the cap.
     fn allows(self, s: Split, columns: u32, c: u32, r: u32) -> bool
-        requires { ⌜ columns ≡ columnsOf self s ⌝ }
+        requires { ⌜ PolarRoom self s × (columns ≡ columnsOf self s) ⌝ }
         ensures { λ t. ⌜ t ≡ allowed (self .cap) (divided self s) c r ⌝ }
     {
         if columns <= c {
@@ -169,25 +186,29 @@ impl Cursor {
         if s.inward <= r {
             return false;
         }
-        if self.inmost(r) { c == 0 } else { true }
+        pick(self.cap, c, 0) <= r * columns
     }
 
-    // The child in column c and row r.
-    fn child(mut self, s: Split, columns: u32, c: u32, r: u32) -> Cursor
+    // The child in column c and row r, with no branch: which row is the inmost cannot be foretold, and its column and row are 0.
+    fn child(self, s: Split, columns: u32, c: u32, r: u32) -> Cursor
         requires { ⌜ ChildRoom self s columns c r ⌝ }
         ensures { λ m. ⌜ Moved self s (ok (polarChild self s c r)) m ⌝ }
     {
         let inmost = self.inmost(r);
-        self.place = self.place + s.characters;
-        self.h = self.h / s.inward;
-        if inmost {
-            return self;
+        let w = pick(inmost, self.w, self.w / columns);
+        let h = self.h / s.inward;
+        Cursor {
+            good: true,
+            place: self.place + s.characters,
+            north: self.north,
+            cap: inmost,
+            disc: self.disc,
+            east: self.east,
+            x: self.x + c * w,
+            w,
+            y: self.y + r * h,
+            h,
         }
-        self.cap = false;
-        self.w = self.w / columns;
-        self.x = self.x + c * self.w;
-        self.y = self.y + r * self.h;
-        self
     }
 
     // The child in column c and row r, if there is one; else the character at a place is not allowed.
@@ -207,13 +228,13 @@ impl Cursor {
         requires { ⌜ PolarRoom self s × (s .characters ≡ 2) × (self .place + 2 ≤ length (now code)) ⌝ }
         ensures { λ m. ⌜ Moved self s (polarStep self s (now (code .entry))) m ⌝ }
     {
-        let at = self.place;
+        let at = s.length - 2;
         let columns = self.columns(s);
-        let a = grid::digit(code[at]);
+        let a = digit_below(columns, code[at]);
         if columns <= a {
             return self.stopped(at);
         }
-        let b = grid::digit(code[at + 1]);
+        let b = digit_below(s.inward, code[at + 1]);
         self.settled(s, columns, a, b, at + 1)
     }
 
@@ -222,9 +243,9 @@ impl Cursor {
         requires { ⌜ PolarRoom self s × (s .characters ≡ 1) × (self .place + 1 ≤ length (now code)) ⌝ }
         ensures { λ m. ⌜ Moved self s (polarStep self s (now (code .entry))) m ⌝ }
     {
-        let at = self.place;
+        let at = s.length - 1;
         let columns = self.columns(s);
-        let a = grid::digit(code[at]);
+        let a = grid::decimal_value(code[at]);
         if columns == 2 {
             return self.settled(s, columns, a % 2, a / 2, at);
         }

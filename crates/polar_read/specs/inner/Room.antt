@@ -3,13 +3,13 @@
 use mathlib.Core.Path.{_≡_}
 use mathlib.Core.Bool.{true, false}
 use mathlib.Core.List.{List}
-use Prim.Native.Nat.{ℕ, _+_, _-_, _≤_, _<_, min}
+use Prim.Native.Nat.{ℕ, _+_, _-_, _*_, _≤_, _<_, min}
 use lib.ListN.{length}
 use Rattle.grid.specs.declared.Split.{Split}
 use Rattle.grid.specs.Units.{TURN, HALF, QUARTER}
 use Rattle.grid.specs.Splits.{splitAt}
 use Rattle.polar_read.specs.declared.Cursor.{Cursor}
-use Rattle.polar_read.specs.inner.Reading.{Round, columnsOf, PolarReached}
+use Rattle.polar_read.specs.inner.Reading.{Round, columnsOf, inmostOf, PolarReached}
 
 -- the code w is as long as one of its level
 pub record OfLevel (level : ℕ) (w : List ℕ) : Type 0 where
@@ -17,20 +17,29 @@ pub record OfLevel (level : ℕ) (w : List ℕ) : Type 0 where
   pub most : level ≤ 10
   pub long : length w ≡ splitAt (level - 1) .length
 
--- a good cursor, whose cell lies on the globe
+-- a level of one character has at most five columns and rows, one of two at most fifteen
+pub record PolarDigits (s : Split) : Type 0 where
+  pub columns : s .columns ≤ 10 * s .characters - 5
+  pub ring : s .ring ≤ 10 * s .characters - 5
+  pub inward : s .inward ≤ 10 * s .characters - 5
+
+-- a good cursor, whose cell lies on the globe; its next level is s
 pub record PolarRoom (c : Cursor) (s : Split) : Type 0 where
   pub good : c .good ≡ true
-  pub near : c .place + s .characters ≤ splitAt 9 .length
+  pub next : c .place + s .characters ≡ s .length
+  pub near : s .length ≤ splitAt 9 .length
+  pub digits : PolarDigits s
   pub wide : c .x + c .w ≤ TURN
   pub high : c .y + c .h ≤ QUARTER
   pub round : Round c
 
--- and it has a child in column i and row j
+-- and it has a child in column i and row j; the new cap is in column 0
 pub record ChildRoom (c : Cursor) (s : Split) (columns i j : ℕ) : Type 0 where
   pub room : PolarRoom c s
   pub counted : columns ≡ columnsOf c s
   pub column : i < columns
   pub row : j < s .inward
+  pub inmost : inmostOf c j ≡ true → i ≡ 0
 
 -- of the code w, as long as one of its level, the levels to k were read; s is the next, of n characters
 pub record PolarReady (level k : ℕ) (s : Split) (n : ℕ) (w : List ℕ) (c : Cursor) : Type 0 where

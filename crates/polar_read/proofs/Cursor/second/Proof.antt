@@ -4,26 +4,26 @@ use borrow.Author.Needs.{needs}
 use Rattle.polar_read.proofs.Cursor.second.Statement.{statement}
 use Rattle.polar_read.proofs.Cursor.second.Tie as tie
 
-shared-slice-read-digit : tie.Need-shared-slice-read-digit
-shared-slice-read-digit c = search needs
+shared-slice-read-decimal-value : tie.Need-shared-slice-read-decimal-value
+shared-slice-read-decimal-value c = search needs
 
-digit-requires : tie.Need-digit-requires
-digit-requires c κs = search needs
+decimal-value-requires : tie.Need-decimal-value-requires
+decimal-value-requires c κs = search needs
 
 stopped-requires : tie.Need-stopped-requires
 stopped-requires c κs = search needs
 
 returns : tie.Need-returns
-returns c = let s = c .before .before .before .before .before in second-first (s .args .self .north) (s .args .code .now) (s .pre .1) (s .pre .2) (c .before .before .digit .ensures) (c .before .if1 .taken) (c .stopped .ensures _)
+returns c = let s = c .before .before .before .before .before in second-first (s .args .self .north) (s .args .code .now) (s .pre .1) (s .pre .2) (c .before .before .decimal-value .ensures) (c .before .if1 .taken) (c .stopped .ensures _)
 
-add-digit : tie.Need-add-digit
-add-digit c = search needs
+add-decimal-value : tie.Need-add-decimal-value
+add-decimal-value c = search needs
 
-shared-slice-read-digit-2 : tie.Need-shared-slice-read-digit-2
-shared-slice-read-digit-2 c = search needs
+shared-slice-read-decimal-value-2 : tie.Need-shared-slice-read-decimal-value-2
+shared-slice-read-decimal-value-2 c = search needs
 
-digit-requires-2 : tie.Need-digit-requires-2
-digit-requires-2 c κs = search needs
+decimal-value-requires-2 : tie.Need-decimal-value-requires-2
+decimal-value-requires-2 c κs = search needs
 
 add-stopped : tie.Need-add-stopped
 add-stopped c = search needs
@@ -32,7 +32,7 @@ stopped-requires-2 : tie.Need-stopped-requires-2
 stopped-requires-2 c κs = search needs
 
 returns-2 : tie.Need-returns-2
-returns-2 c = let s = c .before .before .before .before .before .before .before .before in second-second (s .args .self .north) (s .args .code .now) (s .pre .1) (s .pre .2) (c .before .before .before .before .before .digit .ensures) (c .before .before .digit2 .ensures) (c .before .before .before .before .if1 .left) (c .before .if2 .taken) (c .stopped2 .ensures _)
+returns-2 c = let s = c .before .before .before .before .before .before .before .before in second-second (s .args .self .north) (s .args .code .now) (s .pre .1) (s .pre .2) (c .before .before .before .before .before .decimal-value .ensures) (c .before .before .decimal-value2 .ensures) (c .before .before .before .before .if1 .left) (c .before .if2 .taken) (c .stopped2 .ensures _)
 
 mul-polar : tie.Need-mul-polar
 mul-polar c = search needs
@@ -44,19 +44,19 @@ polar-requires : tie.Need-polar-requires
 polar-requires c κs = search needs
 
 returns-3 : tie.Need-returns-3
-returns-3 c = let s = c .before .before .before .before .before .before .before .before in second-both (s .args .self .north) (s .args .code .now) (s .pre .1) (s .pre .2) (c .before .before .before .before .before .digit .ensures) (c .before .before .digit2 .ensures) (c .before .before .before .before .if1 .left) (c .before .if2 .left) (c .polar .ensures)
+returns-3 c = let s = c .before .before .before .before .before .before .before .before in second-both (s .args .self .north) (s .args .code .now) (s .pre .1) (s .pre .2) (c .before .before .before .before .before .decimal-value .ensures) (c .before .before .decimal-value2 .ensures) (c .before .before .before .before .if1 .left) (c .before .if2 .left) (c .polar .ensures)
 
 pub second-spec : {M : Type 1} → statement M
 second-spec =
     tie.close
     (tie.spec
-    shared-slice-read-digit
-    digit-requires
+    shared-slice-read-decimal-value
+    decimal-value-requires
     stopped-requires
     returns
-    add-digit
-    shared-slice-read-digit-2
-    digit-requires-2
+    add-decimal-value
+    shared-slice-read-decimal-value-2
+    decimal-value-requires-2
     add-stopped
     stopped-requires-2
     returns-2
