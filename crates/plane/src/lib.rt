@@ -231,10 +231,10 @@ pub fn lay(level: u32, p: Place, line: &mut [u8], at: usize) -> Written
     requires { ⌜ (1 ≤ level) × (level ≤ 10) × (p .x < HALF) × (p .y < QUARTER) ⌝ }
     ensures { λ r. ⌜ (written r, now (line .exit)) ≡ laid (text (codeOf level (squareOf p))) (now (line .entry)) at ⌝ }
 {
-    let n = length_of(level);
     if line.len() < at {
         return Written::Refused(refuse(5));
     }
+    let n = length_of(level);
     if line.len() - at < n {
         return Written::Refused(refuse(5));
     }
