@@ -5,7 +5,8 @@ use Prim.Native.Nat.{ℕ, _≤_, _<_}
 use native.Mathlib.Omega.{arith}
 use lib.Dec.{leb}
 use lib.IntN.{ℤ, pos, negsuc}
-use borrow.Author.Tests.{leb-true, le-leb, lt-leb, lt-ltb, le-ltb}
+use lib.Signed.{ltZ}
+use borrow.Author.Tests.{ltb-true, ltb-false, leb-true, le-leb, lt-leb, lt-ltb, le-ltb}
 use Rattle.grid.specs.declared.Place.{Place}
 use Rattle.grid.specs.declared.Refusal.{Refusal}
 use Rattle.grid.specs.Units.{HALF, QUARTER, side, index, unit, Square}
@@ -21,17 +22,17 @@ use Rattle.plane.specs.declared.Asked.the-variants.{At, Refused}
 
 -- ---- the level
 
-pub level-far : (z : ℤ) {n : ℕ} → n ≡ index z → 10 < n → 0 ≡ levelNumber z
-level-far (pos k) e h = rw (lt-leb k 10 (omega arith)) refl
-level-far (negsuc k) e h = refl
+pub level-low : (z : ℤ) → ltZ z (pos 1) ≡ true → 0 ≡ levelNumber z
+level-low (pos k) t = let h : k < 1 = ltb-true k 1 t in rw (le-leb k 10 (omega (arith, h))) (omega (arith, h))
+level-low (negsuc k) t = refl
 
-pub level-near : (z : ℤ) {n : ℕ} {b : Bool} → n ≡ index z → b ≡ side z → n ≤ 10 → b ≡ true → n ≡ levelNumber z
-level-near (pos k) e f h t = rw (le-leb k 10 (omega arith)) e
-level-near (negsuc k) e f h t = clash (cc)
+pub level-high : (z : ℤ) → ltZ (pos 10) z ≡ true → 0 ≡ levelNumber z
+level-high (pos k) t = rw (lt-leb k 10 (ltb-true 10 k t)) refl
+level-high (negsuc k) t = refl
 
-pub level-below : (z : ℤ) {b : Bool} → b ≡ side z → b ≡ false → 0 ≡ levelNumber z
-level-below (pos k) f t = clash (cc)
-level-below (negsuc k) f t = refl
+pub level-within : (z : ℤ) → ltZ z (pos 1) ≡ false → ltZ (pos 10) z ≡ false → z ≡ pos (levelNumber z)
+level-within (pos k) t u = rw (le-leb k 10 (ltb-false 10 k u)) refl
+level-within (negsuc k) t u = clash (cc)
 
 pub level-most : (z : ℤ) → levelNumber z ≤ 10
 level-most (pos k) = go (leb k 10) refl

@@ -74,8 +74,8 @@ module _ (w : List ℕ) where
   read-rest {l} {n} t e q = q ∙ ap (λ (d : List ℕ). answer planeCodes l (next 4 (ok n) (λ m. follow plane (drop 1 (take l splits)) m d))) (sym (drop-map digitOf 4 w)) ∙ by-first l t (ok n) (sym e)
 
 -- every code has its first four characters
+pub four-in : (l : ℕ) → 1 ≤ l → l ≤ 10 → 4 ≤ splitAt (l - 1) .length
+four-in l low high = leb-true 4 _ (below (λ k. leb 4 (splitAt k .length)) 10 (l - 1) refl (omega (arith, low, high)))
+
 pub length-four : {n l : ℕ} → Leveled n l → 4 ≤ n
-length-four {n} {l} t =
-    let e : n ≡ splitAt (l - 1) .length = t .long in
-    let h : 4 ≤ splitAt (l - 1) .length = leb-true 4 _ (below (λ k. leb 4 (splitAt k .length)) 10 (l - 1) refl (omega (arith, t .low, t .high))) in
-    omega arith
+length-four {n} {l} t = let e : n ≡ splitAt (l - 1) .length = t .long in omega (arith, e, four-in l (t .low) (t .high))

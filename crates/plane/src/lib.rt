@@ -15,7 +15,7 @@ ghost use Rattle.grid.specs.Laying.{text, laid, written};
 ghost use Rattle.grid.specs.Plane.{codeOf, cellOf, globeChild};
 ghost use Rattle.grid.specs.inner.Roads.{squareOf};
 ghost use Rattle.plane.specs.Text.{planeText, levelNumber};
-ghost use Rattle.plane.specs.inner.Asking.{askedText, Fitting, Same, Placed, PlaneWritable};
+ghost use Rattle.plane.specs.inner.Asking.{askedText, placeAt, Fitting, Same, Placed, PlaneWritable};
 ghost use Rattle.plane.specs.inner.Lengths.{levelOf};
 ghost use Rattle.plane.specs.inner.Start.{firstRead, Ranged, northOrSouth, letteredRead, zonedRead};
 use grid::Place;
@@ -182,11 +182,13 @@ fn placed(longitude: i64, latitude: i64, x: u64, y: u64) -> Place
 fn level_in(level: i64) -> u32
     ensures { λ r. ⌜ r ≡ levelNumber level ⌝ }
 {
-    let n = outward(level);
-    if 10 < n {
+    if level < 1 {
         return 0;
     }
-    if upper(level) { n as u32 } else { 0 }
+    if 10 < level {
+        return 0;
+    }
+    level as u32
 }
 
 // The ranges as they are held against an i64's outward index.
@@ -213,12 +215,19 @@ pub fn ask(level: i64, longitude: i64, latitude: i64) -> Asked
     Asked::At(l, placed(longitude, latitude, x, y))
 }
 
-// Writes the code of a level for a place from the line's first byte on.
-pub fn put(level: u32, p: Place, line: &mut [u8])
-    requires { ⌜ PlaneWritable level p (now line) ⌝ }
-    ensures { λ _. ⌜ now (line .exit) ≡ sets (now (line .entry)) 0 (codeOf level (squareOf p)) ⌝ }
+// Writes the code of a level for a place from the line's first byte on. The place is handed over by its parts, which travel in registers: a `Place`
+// would go through memory.
+pub fn put(level: u32, east: bool, north: bool, x: u32, y: u32, line: &mut [u8])
+    requires { ⌜ PlaneWritable level (placeAt east north x y) (now line) ⌝ }
+    ensures { λ _. ⌜ now (line .exit) ≡ sets (now (line .entry)) 0 (codeOf level (squareOf (placeAt east north x y))) ⌝ }
 {
-    if p.y < grid::POLAR {
+    let p = Place {
+        east: east,
+        north: north,
+        x: x,
+        y: y,
+    };
+    if y < grid::POLAR {
         ordinary_write::put(level, p, line);
     } else {
         polar_write::put(level, p, line);
@@ -230,14 +239,14 @@ pub fn lay(level: u32, p: Place, line: &mut [u8], at: usize) -> Written
     requires { ⌜ (1 ≤ level) × (level ≤ 10) × (p .x < HALF) × (p .y < QUARTER) ⌝ }
     ensures { λ r. ⌜ (written r, now (line .exit)) ≡ laid (text (codeOf level (squareOf p))) (now (line .entry)) at ⌝ }
 {
-    let n = length_of(level);
     if line.len() < at {
         return Written::Refused(refuse(5));
     }
+    let n = length_of(level);
     if line.len() - at < n {
         return Written::Refused(refuse(5));
     }
-    put(level, p, &mut line[at..]);
+    put(level, p.east, p.north, p.x, p.y, &mut line[at..]);
     Written::Bytes(n)
 }
 

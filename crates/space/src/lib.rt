@@ -336,7 +336,7 @@ fn put(l: u32, p: Place, above: bool, rise: u32, line: &mut [u8])
     ensures { λ _. ⌜ now (line .exit) ≡ sets (now (line .entry)) 0 (spaceCodeOf l (squareOf p, layerOf (product radices) above rise)) ⌝ }
 {
     let mut flat = [0u8; 20];
-    plane::put(l, p, &mut flat);
+    plane::put(l, p.east, p.north, p.x, p.y, &mut flat);
     lay_plane(l, &flat, line);
     let mut high = [0u8; 12];
     layers::put(l, above, rise, &mut high);

@@ -1,7 +1,9 @@
 -- `plane::lay` meets its contract. Assumes nothing.
-use mathlib.Core.Path.{refl, _∙_, sym}
-use Prim.Native.Nat.{_<_}
-use Rattle.grid.specs.Units.{QUARTER}
+use mathlib.Core.Path.{_≡_, refl, _∙_, sym}
+use Prim.Native.Nat.{_-_}
+use lib.ListN.{length}
+use Rattle.grid.specs.Splits.{splitAt}
+use Rattle.grid.specs.Plane.{codeOf}
 use Rattle.grid.specs.inner.Roads.{squareOf}
 use Rattle.grid.proofs.Laying.{laid-past-by, laid-short-by, laid-lent}
 use Rattle.plane.proofs.Reading.{code-length, on-globe}
@@ -9,17 +11,20 @@ use borrow.Author.Needs.{needs}
 use Rattle.plane.proofs.lay.Statement.{statement}
 use Rattle.plane.proofs.lay.Tie as tie
 
-high : (s : tie.Start) → s .args .p .y < QUARTER
-high s = s .pre .3
-
-length-of-requires : tie.Need-length-of-requires
-length-of-requires c κs = search needs
+-- how long the code is that is to be laid down
+long : (s : tie.Start) → length (codeOf (s .args .level) (squareOf (s .args .p))) ≡ splitAt (s .args .level - 1) .length
+long s = code-length (s .args .level) (squareOf (s .args .p)) (on-globe (s .args .p) (s .pre .2) (s .pre .3)) (s .pre .0) (s .pre .1)
 
 refuse-requires : tie.Need-refuse-requires
 refuse-requires c κs = search needs
 
 returns : tie.Need-returns
-returns c = laid-past-by (c .before .before .before .before .args .line .now) (c .before .before .before .before .args .at) _ (c .refuse .ensures) refl (code-length (c .before .before .before .before .args .level) (squareOf (c .before .before .before .before .args .p)) (on-globe (c .before .before .before .before .args .p) (c .before .before .before .before .pre .2) (high (c .before .before .before .before))) (c .before .before .before .before .pre .0) (c .before .before .before .before .pre .1) ∙ sym (c .before .before .length-of .ensures)) (c .before .if1 .taken)
+returns c =
+    let s = c .before .before .before in
+    laid-past-by (s .args .line .now) (s .args .at) _ (c .refuse .ensures) refl (long s) (c .before .if1 .taken)
+
+length-of-requires : tie.Need-length-of-requires
+length-of-requires c κs = search needs
 
 sub-if2 : tie.Need-sub-if2
 sub-if2 c = search needs
@@ -28,7 +33,10 @@ refuse-requires-2 : tie.Need-refuse-requires-2
 refuse-requires-2 c κs = search needs
 
 returns-2 : tie.Need-returns-2
-returns-2 c = laid-short-by (c .before .before .before .before .before .args .line .now) (c .before .before .before .before .before .args .at) _ (c .refuse2 .ensures) refl (code-length (c .before .before .before .before .before .args .level) (squareOf (c .before .before .before .before .before .args .p)) (on-globe (c .before .before .before .before .before .args .p) (c .before .before .before .before .before .pre .2) (high (c .before .before .before .before .before))) (c .before .before .before .before .before .pre .0) (c .before .before .before .before .before .pre .1) ∙ sym (c .before .before .before .length-of .ensures)) (c .before .before .if1 .left) (c .before .if2 .taken)
+returns-2 c =
+    let s = c .before .before .before .before .before in
+    laid-short-by (s .args .line .now) (s .args .at) _ (c .refuse2 .ensures) refl (long s ∙ sym (c .before .before .length-of .ensures))
+    (c .before .before .before .if1 .left) (c .before .if2 .taken)
 
 sub-put : tie.Need-sub-put
 sub-put c = search needs
@@ -46,15 +54,18 @@ same-length : tie.Need-same-length
 same-length c = search needs
 
 returns-3 : tie.Need-returns-3
-returns-3 c = laid-lent (c .before .before .before .before .before .before .before .before .args .line .now) (c .before .before .before .before .before .before .before .before .args .at) _ refl (code-length (c .before .before .before .before .before .before .before .before .args .level) (squareOf (c .before .before .before .before .before .before .before .before .args .p)) (on-globe (c .before .before .before .before .before .before .before .before .args .p) (c .before .before .before .before .before .before .before .before .pre .2) (high (c .before .before .before .before .before .before .before .before))) (c .before .before .before .before .before .before .before .before .pre .0) (c .before .before .before .before .before .before .before .before .pre .1) ∙ sym (c .before .before .before .before .before .before .length-of .ensures)) (c .before .before .before .before .before .if1 .left) (c .before .before .before .before .if2 .left) (c .before .before .put .ensures)
+returns-3 c =
+    let s = c .before .before .before .before .before .before .before .before in
+    laid-lent (s .args .line .now) (s .args .at) _ refl (long s ∙ sym (c .before .before .before .before .before .length-of .ensures))
+    (c .before .before .before .before .before .before .if1 .left) (c .before .before .before .before .if2 .left) (c .before .before .put .ensures)
 
 pub lay-spec : {M : Type 1} → statement M
 lay-spec =
     tie.close
     (tie.spec
-    length-of-requires
     refuse-requires
     returns
+    length-of-requires
     sub-if2
     refuse-requires-2
     returns-2

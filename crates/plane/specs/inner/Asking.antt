@@ -1,5 +1,6 @@
 -- What a position writer is asked for, once refusals 1, 2 and 3 are decided, and what is needed to write it.
 -- Assumes nothing.
+use mathlib.Core.Bool.{Bool}
 use mathlib.Core.List.{List}
 use mathlib.Core.Path.{_≡_}
 use Prim.Native.Nat.{ℕ, _-_, _≤_, _<_}
@@ -19,6 +20,10 @@ use Rattle.plane.specs.Text.{levelNumber}
 abbrev pub askedText : Asked → Text
 askedText (At l p) = text (codeOf l (squareOf p))
 askedText (Refused r) = refuse r
+
+-- the place that has these parts
+abbrev pub placeAt : Bool → Bool → ℕ → ℕ → Place
+placeAt east north x y = record { east = east; north = north; x = x; y = y }
 
 -- the place of a position
 pub record Placed (longitude latitude : ℤ) (p : Place) : Type 0 where
