@@ -11,7 +11,7 @@ ghost use Rattle.grid.specs.Splits.{first, second};
 ghost use Rattle.grid.specs.Tree.{ok, bad};
 ghost use Rattle.grid.specs.Answers.{planeRead};
 ghost use Rattle.grid.specs.Plane.{pole, allowed, longitudeAt, leastFromPole, cellAt, polarNode};
-ghost use Rattle.grid.specs.inner.Roads.{DigitBelow, laterRead};
+ghost use Rattle.grid.specs.inner.Roads.{laterRead};
 ghost use Rattle.polar_read.specs.inner.Reading.{nodeOf, polarReading, startOf, Round, HasRead, Moved, PolarReached, polarAnswer};
 ghost use Rattle.polar_read.specs.inner.Reading.{columnsOf, inmostOf, divided, polarChild, settledOf, polarStep};
 ghost use Rattle.polar_read.specs.inner.Room.{OfLevel, Whole, PolarRoom, ChildRoom, PolarReady};
@@ -52,18 +52,6 @@ fn pick(first: bool, a: u32, b: u32) -> u32
     ensures { λ r. ⌜ r ≡ cond first a b ⌝ }
 {
     if first { a } else { b }
-}
-
-// A character's digit, as far as a test against the limit can tell. The limits are the table's, so one of the two folds away.
-fn digit_below(limit: u32, b: u8) -> u32
-    requires { ⌜ limit ≤ 32 ⌝ }
-    ensures { λ r. ⌜ DigitBelow limit b r ⌝ }
-{
-    if limit <= 10 {
-        grid::decimal_value(b)
-    } else {
-        grid::value(b)
-    }
 }
 
 // The reading place of a polar code, and the cell read so far.
@@ -230,11 +218,11 @@ impl Cursor {
     {
         let at = s.length - 2;
         let columns = self.columns(s);
-        let a = digit_below(columns, code[at]);
+        let a = grid::digit_below(columns, code[at]);
         if columns <= a {
             return self.stopped(at);
         }
-        let b = digit_below(s.inward, code[at + 1]);
+        let b = grid::digit_below(s.inward, code[at + 1]);
         self.settled(s, columns, a, b, at + 1)
     }
 
