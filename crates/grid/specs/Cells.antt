@@ -1,5 +1,6 @@
 -- What a reader hands back: which unit squares and cubes it has, and that it lies in the ranges.
 -- Assumes nothing.
+use mathlib.Core.Path.{_≡_}
 use Prim.Native.Nat.{ℕ, _+_, _-_, _%_, _≤_, _<_}
 use lib.IntN.{ℤ, pos, negsuc, _+ℤ_}
 use lib.Signed.{_≤ℤ_}
@@ -12,15 +13,17 @@ abbrev pub around : ℤ → ℕ
 around (pos n) = n % TURN
 around (negsuc n) = TURN - 1 - n % TURN
 
--- counted from the least number that an i32 holds, so that all of them compare as whole numbers
-abbrev pub above-least : ℤ → ℕ
-above-least (pos n) = 2147483648 + n
-above-least (negsuc n) = 2147483647 - n
+-- how far the second number lies above the first; 0 where it does not
+abbrev pub above : ℤ → ℤ → ℕ
+above (pos a) (pos b) = b - a
+above (pos a) (negsuc b) = 0
+above (negsuc a) (pos b) = a + 1 + b
+above (negsuc a) (negsuc b) = a - b
 
--- v is one of the n numbers from `from` on
+-- v is one of the n whole numbers from `from` on: not below it, and less than n above it
 pub record Within (from : ℤ) (n : ℕ) (v : ℤ) : Type 0 where
-  pub starts : above-least from ≤ above-least v
-  pub ends : above-least v < above-least from + n
+  pub starts : above v from ≡ 0
+  pub ends : above from v < n
 
 -- the cell has the square: eastward from its west edge, past 180° if need be, and northward from its south edge
 pub record Covers (c : Cell) (s : Square) : Type 0 where

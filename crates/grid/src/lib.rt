@@ -44,7 +44,8 @@ pub struct PolarCell {
     pub low: u32,
 }
 
-// A plane cell, as a reader hands it back.
+// A plane cell, as a reader hands it back. In C it has this layout, so that a record can hold one.
+#[repr(C)]
 pub struct Cell {
     pub level: u32,
     pub west: i32,
@@ -54,6 +55,7 @@ pub struct Cell {
 }
 
 // A space cell adds layer floor and thickness.
+#[repr(C)]
 pub struct SpaceCell {
     pub cell: Cell,
     pub floor: i32,

@@ -7,12 +7,12 @@ use mathlib.Core.Logic.{inl, inr}
 use Prim.Native.Nat.{ℕ, suc, _+_, _-_, _%_, _≤_, _<_, _∣_}
 use native.Mathlib.Omega.{arith}
 use lib.Dec.{ltb, leb}
-use lib.IntN.{ℤ}
+use lib.IntN.{ℤ, pos, negsuc}
 use borrow.Author.Tests.{ltb-true, leb-true, lt-ltb, le-ltb, le-leb}
 use Rattle.grid.specs.declared.Cell.{Cell}
 use Rattle.grid.specs.Units.{TURN, HALF, POLAR, index, Square, OnGlobe}
 use Rattle.grid.specs.Answers.{accepted}
-use Rattle.grid.specs.Cells.{around, Covers}
+use Rattle.grid.specs.Cells.{around, above, Covers}
 use Rattle.grid.specs.Splits.{splitAt}
 use Rattle.grid.specs.Plane.{codeOf, cellOf}
 use Rattle.grid.proofs.Cut.{and-true, and-make, below}
@@ -114,13 +114,18 @@ corner c = record { longitude = c .west; latitude = c .south }
 corner-on : (c : Cell) → Fit c → OnGlobe (corner c)
 corner-on c f = let s : index (c .south) < 648806400 = f .south-in in record { longitude-in = f .east .within; latitude-in = omega arith }
 
+above-self : (z : ℤ) → above z z ≡ 0
+above-self (pos n) = omega arith
+above-self (negsuc n) = omega arith
+
 corner-covered : (c : Cell) → Fit c → Covers c (corner c)
 corner-covered c f =
     let r : around (c .west) < 2654208000 = around-below (c .west) in
     let p : 0 < c .width = f .east .some in
     let q : 0 < c .height = f .north .some in
     let z : (around (c .west) + (2654208000 - around (c .west))) % 2654208000 ≡ 0 = omega arith in
-    record { across = rw z p; along = record { starts = omega arith; ends = omega arith } }
+    let y : above (c .south) (c .south) ≡ 0 = above-self (c .south) in
+    record { across = rw z p; along = record { starts = y; ends = omega arith } }
 
 pub corner-code : (w : List ℕ) (c : Cell) → cellOf w ≡ accepted c → Fit c → w ≡ codeOf (c .level) (corner c)
 corner-code w c e f = plane-demands .no-other w c (corner c) (corner-on c f) e (corner-covered c f)
