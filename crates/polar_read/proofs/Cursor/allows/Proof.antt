@@ -1,5 +1,5 @@
 -- `polar_read::Cursor::allows` meets its contract. The tests in the order of the definition. Assumes nothing.
-use Prim.Native.Nat.{_*_, _≤_}
+use Prim.Native.Nat.{_≤_}
 use native.Mathlib.Nat.{mul-le-mul}
 use native.Mathlib.Omega.{arith}
 use Rattle.polar_read.proofs.Division.{no-column, no-row, a-child}
