@@ -1,15 +1,15 @@
 -- Characters and digits: where a byte's digit is found, and that the two ways undo each other.
 -- Assumes nothing.
-use mathlib.Core.Path.{_≡_, refl, sym, _∙_}
+use mathlib.Core.Path.{_≡_, refl, sym, ap, _∙_}
 use mathlib.Core.Bool.{Bool, true, false, cond, _&&_}
 use mathlib.Core.List.{List, [], _∷_, map}
-use Prim.Native.Nat.{ℕ, _+_, _-_, _%_, _^_, _≤_, _<_}
+use Prim.Native.Nat.{ℕ, _+_, _-_, _%_, _^_, _≤_, _<_, min}
 use native.Mathlib.Omega.{arith}
 use lib.Dec.{ltb, leb, eqb}
 use borrow.Author.Tests.{ltb-true, ltb-false, leb-true, eqb-true, lt-ltb, le-ltb, le-leb, lt-leb}
 use Rattle.grid.specs.Characters.{charOf, digitOf}
-use Rattle.grid.specs.inner.Roads.{decimalDigit}
-use Rattle.grid.specs.Tree.{Read, guard}
+use Rattle.grid.specs.inner.Roads.{DigitBelow}
+use Rattle.grid.specs.Tree.{Read, bad, guard}
 use Rattle.grid.proofs.Cut.{and-true, below, Below}
 
 -- ---- where a byte's digit is found
@@ -93,44 +93,63 @@ pub chars-digits : (w : List ℕ) → Below 32 (map digitOf w) → map charOf (m
 chars-digits [] h = refl
 chars-digits (x ∷ w) h = rw (char-digit x (h .0), chars-digits w (h .1)) refl
 
--- ---- decimal digits
+-- ---- what tells a byte's digit below n
 
 char-decimal : (v : ℕ) → v < 10 → 48 + v ≡ charOf v
 unfolding charOf
 char-decimal v h = rw (lt-ltb v 10 h) refl
 
-module _ (b : ℕ) where
-  pub decimal-below : digitOf b < 10 → decimalDigit b ≡ digitOf b
-  unfolding decimalDigit
-  decimal-below h = rw (lt-ltb (digitOf b) 10 h) refl
-
-  pub decimal-above : 10 ≤ digitOf b → decimalDigit b ≡ 32
-  unfolding decimalDigit
-  decimal-above h = rw (le-ltb (digitOf b) 10 h) refl
-
-  -- by its distance from '0', taken around the 32 bits
-  module _ (d : ℕ) (e : (d + 48) % 2 ^ 32 ≡ b) where
-    pub decimal-near : d < 10 → d ≡ decimalDigit b
-    decimal-near h =
-        let f : d ≡ digitOf b = near-zero b d e h in
-        f ∙ sym (decimal-below (omega arith))
-
-    pub decimal-far : 10 ≤ d → d < 2 ^ 32 → 32 ≡ decimalDigit b
-    decimal-far h k = go (ltb (digitOf b) 10) refl
-      where
-        go : (q : Bool) → ltb (digitOf b) 10 ≡ q → 32 ≡ decimalDigit b
-        go true q =
-            let l : digitOf b < 10 = ltb-true _ _ q in
-            let c : 48 + digitOf b ≡ b = char-decimal (digitOf b) l ∙ char-digit b (omega arith) in
-            absurd (omega arith)
-        go false q = sym (decimal-above (ltb-false _ _ q))
-
-  -- a test against a limit of at most 10 does not tell the two apart
-  pub decimal-guard : {A : Type 0} (p limit : ℕ) (f : ℕ → Read A) → limit ≤ 10 → guard p (ltb (decimalDigit b) limit) (f (decimalDigit b)) ≡ guard p (ltb (digitOf b) limit) (f (digitOf b))
-  decimal-guard p limit f h = go (ltb (digitOf b) 10) refl
+-- its distance from '0', taken around the 32 bits, below 10
+module _ (b d : ℕ) (e : (d + 48) % 2 ^ 32 ≡ b) where
+  far-zero : 10 ≤ d → d < 2 ^ 32 → 10 ≤ digitOf b
+  far-zero h k = go (ltb (digitOf b) 10) refl
     where
-      go : (q : Bool) → ltb (digitOf b) 10 ≡ q → guard p (ltb (decimalDigit b) limit) (f (decimalDigit b)) ≡ guard p (ltb (digitOf b) limit) (f (digitOf b))
-      go true q = rw (decimal-below (ltb-true _ _ q)) refl
+      go : (q : Bool) → ltb (digitOf b) 10 ≡ q → 10 ≤ digitOf b
+      go true q =
+          let l : digitOf b < 10 = ltb-true _ _ q in
+          let c : 48 + digitOf b ≡ b = char-decimal (digitOf b) l ∙ char-digit b (omega arith) in
+          absurd (omega arith)
+      go false q = ltb-false _ _ q
+
+  pub below-ten : d < 2 ^ 32 → DigitBelow 10 b d
+  below-ten k = go (ltb d 10) refl
+    where
+      go : (q : Bool) → ltb d 10 ≡ q → DigitBelow 10 b d
+      go true q = record { tells = ap (λ x. min x 10) (near-zero b d e (ltb-true _ _ q)) }
       go false q =
-          let l : 10 ≤ digitOf b = ltb-false _ _ q in
-          rw (decimal-above l, le-ltb (digitOf b) limit (omega arith), le-ltb 32 limit (omega arith)) refl
+          let h : 10 ≤ d = ltb-false _ _ q in
+          let f : 10 ≤ digitOf b = far-zero h k in
+          record { tells = omega arith }
+
+  -- below 32, and from 10 on its distance from 'A' and 10, taken around the 8 bits
+  pub below-near : d < 10 → DigitBelow 32 b d
+  below-near h = record { tells = ap (λ x. min x 32) (near-zero b d e h) }
+
+  pub below-far : 10 ≤ d → d < 2 ^ 32 → b < 256 → (l : ℕ) → (l + 65) % 2 ^ 8 ≡ b → l < 256 → DigitBelow 32 b (l + 10)
+  below-far h k w l f v = go (ltb l 22) refl
+    where
+      go : (q : Bool) → ltb l 22 ≡ q → DigitBelow 32 b (l + 10)
+      go true q =
+          let m : l < 22 = ltb-true _ _ q in
+          record { tells = ap (λ x. min x 32) (near-a b d e l (omega arith) h m) }
+      go false q =
+          let m : 22 ≤ l = ltb-false _ _ q in
+          let n : 32 ≡ digitOf b = near-neither b d e ((b + 4294967231) % 2 ^ 32) (omega arith) h (omega arith) k (omega arith) w in
+          record { tells = omega arith }
+
+-- where all the numbers from n on come to one value, it serves as the digit does
+pub told : {A : Type 0} {n b r : ℕ} → DigitBelow n b r → (f : ℕ → A) (v : A) → ((m : ℕ) → n ≤ m → f m ≡ v) → f r ≡ f (digitOf b)
+told {A} {n} {b} {r} e f v h = go (ltb r n) refl
+  where
+    go : (q : Bool) → ltb r n ≡ q → f r ≡ f (digitOf b)
+    go true q =
+        let l : r < n = ltb-true _ _ q in
+        ap f (omega (arith, e .tells))
+    go false q =
+        let l : n ≤ r = ltb-false _ _ q in
+        h r l ∙ sym (h (digitOf b) (omega (arith, e .tells)))
+
+-- as in a test against a limit of at most n
+pub guard-below : {A : Type 0} {n b r : ℕ} → DigitBelow n b r → (p limit : ℕ) (f : ℕ → Read A) → limit ≤ n
+    → guard p (ltb r limit) (f r) ≡ guard p (ltb (digitOf b) limit) (f (digitOf b))
+guard-below {n = n} e p limit f h = told e (λ x. guard p (ltb x limit) (f x)) (bad p) (λ m k. rw (le-ltb m limit (omega arith)) refl)

@@ -7,7 +7,7 @@ ghost use Rattle.grid.specs.Units.{side, index, unit};
 ghost use Rattle.grid.specs.Plane.{letter, least};
 ghost use Rattle.grid.specs.Splits.{splitAt, polarCellAt};
 ghost use Rattle.grid.specs.Characters.{charOf, digitOf};
-ghost use Rattle.grid.specs.inner.Roads.{decimalDigit};
+ghost use Rattle.grid.specs.inner.Roads.{DigitBelow};
 
 // One minute and one degree, in units of 1/2048 arc-second.
 pub const MINUTE: u32 = 60 * 2048;
@@ -298,12 +298,23 @@ pub fn digit(b: u8) -> u32
     if letter < 22 { letter + 10 } else { 32 }
 }
 
-// A character's digit where it is one of 0 to 9, else 32. Where no digit from 10 on is allowed it serves as `digit` does, with one test less.
-pub fn decimal(b: u8) -> u32
-    ensures { λ r. ⌜ r ≡ decimalDigit b ⌝ }
+// A character's digit, as far as a test against a bound of at most 32 can tell: no code character gives less than 32.
+// One conditional move less than `digit`: 65 is taken off modulo 256, so that what stands before A comes out above V.
+pub fn value(b: u8) -> u32
+    ensures { λ r. ⌜ DigitBelow 32 b r ⌝ }
 {
-    let d = std::num::wrapping_sub_u32(b as u32, 48);
-    if d < 10 { d } else { 32 }
+    let decimal = std::num::wrapping_sub_u32(b as u32, 48);
+    if decimal < 10 {
+        return decimal;
+    }
+    std::num::wrapping_sub_u8(b, 65) as u32 + 10
+}
+
+// The same for bounds of at most 10: nothing but 0 to 9 gives less than 10. No conditional move at all.
+pub fn decimal_value(b: u8) -> u32
+    ensures { λ r. ⌜ DigitBelow 10 b r ⌝ }
+{
+    std::num::wrapping_sub_u32(b as u32, 48)
 }
 
 // N or S, a code's first character.

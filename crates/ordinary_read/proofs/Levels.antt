@@ -22,7 +22,7 @@ use Rattle.grid.proofs.Laws.{shift-shift}
 use Rattle.grid.proofs.Lengths.{adds}
 use Rattle.ordinary_read.proofs.Steps.{onward-bad}
 use Rattle.ordinary_read.specs.declared.Cursor.{Cursor}
-use Rattle.ordinary_read.specs.inner.Reading.{ordinaryRead, onward, ordinaryAnswer, Inside, LevelCell, DividedBy, Decimal, LevelNext, LevelRead, AtSheet, Onward}
+use Rattle.ordinary_read.specs.inner.Reading.{ordinaryRead, onward, ordinaryAnswer, Inside, LevelCell, DividedBy, OneCharacter, TwoCharacters, LevelNext, LevelRead, AtSheet, Onward}
 
 -- ---- from one level to the next
 
@@ -33,8 +33,6 @@ each f e k h = below (λ k. f (splitAt k) (splitAt (suc k))) 9 k e h
 -- the next level divides a cell of this one
 divides : (k : ℕ) (c : Cursor) → k < 9 → LevelCell (splitAt k) c → DividedBy (splitAt (suc k)) c
 divides k c h p =
-    let low : 2 ≤ splitAt (suc k) .columns = leb-true _ _ (each (λ t s. leb 2 (s .columns)) refl k h) in
-    let high : splitAt (suc k) .columns ≤ 2 + 100 * (splitAt (suc k) .characters - 1) = leb-true _ _ (each (λ t s. leb (s .columns) (2 + 100 * (s .characters - 1))) refl k h) in
     record {
       wide = eqb-true _ _ (each (λ t s. eqb (s .columns * s .width) (t .width)) refl k h) ∙ sym (p .wide);
       high = eqb-true _ _ (each (λ t s. eqb (s .rows * s .height) (t .height)) refl k h) ∙ sym (p .high);
@@ -42,13 +40,14 @@ divides k c h p =
       some-height = ltb-true _ _ (each (λ t s. ltb 0 (s .height)) refl k h);
       at = ap (λ (x : ℕ). x + splitAt (suc k) .characters) (p .at) ∙ adds k h;
       some-characters = leb-true _ _ (each (λ t s. leb 1 (s .characters)) refl k h);
-      few-characters = leb-true _ _ (each (λ t s. leb (s .characters) 2) refl k h);
-      single = λ e. omega (arith, low, high, e);
     }
 
--- a level of two characters needs no letters where it has ten columns and ten rows at most
-pub decimal : (k : ℕ) {s : Split} → s ≡ splitAt k → splitAt k .characters ≡ 2 → leb (splitAt k .columns) 10 ≡ true → leb (splitAt k .rows) 10 ≡ true → Decimal s
-decimal k e t c r = subst⁻¹ Decimal e (record { two = t; few-columns = leb-true _ _ c; few-rows = leb-true _ _ r })
+module _ (k : ℕ) {s : Split} (e : s ≡ splitAt k) where
+  pub two-characters : splitAt k .characters ≡ 2 → leb (splitAt k .columns) 32 ≡ true → leb (splitAt k .rows) 32 ≡ true → TwoCharacters s
+  two-characters t c r = subst⁻¹ TwoCharacters e (record { two = t; few-columns = leb-true _ _ c; few-rows = leb-true _ _ r })
+
+  pub one-character : splitAt k .characters ≡ 1 → splitAt k .columns ≡ 2 → leb (2 * splitAt k .rows) 10 ≡ true → OneCharacter s
+  one-character t c r = subst⁻¹ OneCharacter e (record { one = t; two-columns = c; few-rows = leb-true _ _ r })
 
 -- what is read of the code w from the cell m on, through the level k + 1
 abbrev readTo : List ℕ → Node → ℕ → Read Node

@@ -12,16 +12,16 @@ use borrow.Author.Tests.{lt-ltb, le-ltb, le-leb, leb-true, leb-false}
 use Rattle.grid.specs.declared.Split.{Split}
 use Rattle.grid.specs.Units.{HALF, POLAR}
 use Rattle.grid.specs.Characters.{digitOf}
-use Rattle.grid.specs.inner.Roads.{decimalDigit}
+use Rattle.grid.specs.inner.Roads.{DigitBelow}
 use Rattle.grid.specs.Tree.{Read, ok, bad, guard, shift}
 use Rattle.grid.specs.Splits.{first}
 use Rattle.grid.specs.Answers.{accepted, refused, wrongCharacter}
 use Rattle.grid.specs.Plane.{Node, cell, ordinary, Form, pair, quad, formOf, plainPart, sub, sheet, readAs, least, cellFrom, planeCodes}
 use Rattle.grid.proofs.Cut.{clash, cut-end, and-true}
-use Rattle.grid.proofs.Characters.{decimal-guard}
+use Rattle.grid.proofs.Characters.{told, guard-below}
 use Rattle.grid.proofs.Lists.{map-one, map-two}
 use Rattle.ordinary_read.specs.declared.Cursor.{Cursor}
-use Rattle.ordinary_read.specs.inner.Reading.{ordinaryBox, ordinaryRead, levelDigits, onward, ordinaryAnswer, Inside, DividedBy, Decimal, goesOn, LevelNext, AtSheet, Child, Onward}
+use Rattle.ordinary_read.specs.inner.Reading.{ordinaryBox, ordinaryRead, levelDigits, onward, ordinaryAnswer, Inside, DividedBy, OneCharacter, goesOn, LevelNext, AtSheet, Child, Onward}
 
 -- ---- the cell of level 1
 
@@ -164,39 +164,35 @@ module _ (s : Split) (w : List ℕ) (c : Cursor) (h : s .length ≤ length w) (g
       → onward s w (ordinaryRead c) ≡ shift (c .place) (readAs f false (plainPart s) childAt l)
   goes-on f l e k = rw (le-leb (s .length) (length w) h, g, k, e, here) refl
 
-  pub onward-pair : (a b : ℕ) (r : Cursor) → ¬ (s .characters ≡ 1) → a ≡ digitOf (getD w (c .place) 0) → b ≡ digitOf (getD w (c .place + 1) 0)
+  pub onward-pair : (a b : ℕ) (r : Cursor) → s .characters ≡ 2 → DigitBelow (s .columns) (getD w (c .place) 0) a → DigitBelow (s .rows) (getD w (c .place + 1) 0) b
       → Child s a b c r → Onward s w c r
-  onward-pair a b r t p q k =
-      let two : s .characters ≡ 2 = omega (arith, d .some-characters, d .few-characters) in
-      let l : levelDigits s w ≡ a ∷ b ∷ [] = rw (here, two, p, q) (map-two digitOf w (c .place) (omega (arith, d .at))) in
+  onward-pair a b r two p q k =
+      let u : ℕ = digitOf (getD w (c .place) 0) in
+      let v : ℕ = digitOf (getD w (c .place + 1) 0) in
+      let l : levelDigits s w ≡ u ∷ v ∷ [] = rw (here, two) (map-two digitOf w (c .place) (omega (arith, d .at))) in
+      let rowAt : ℕ → ℕ → Read Node = λ column row. guard (s .length - 1) (ltb row (s .rows)) (ok (childAt column row)) in
       record {
-        read = k .read ∙ pair-guards (c .place) (s .length - 1) (ltb a (s .columns)) (ltb b (s .rows)) (childAt a b) (omega (arith, d .at)) ∙ sym (goes-on pair (a ∷ b ∷ []) (rw two refl) l);
+        read = k .read ∙ guard-below p (c .place) (s .columns) (λ x. rowAt x b) (omega arith)
+            ∙ ap (guard (c .place) (ltb u (s .columns))) (guard-below q (s .length - 1) (s .rows) (λ y. ok (childAt u y)) (omega arith))
+            ∙ pair-guards (c .place) (s .length - 1) (ltb u (s .columns)) (ltb v (s .rows)) (childAt u v) (omega (arith, d .at)) ∙ sym (goes-on pair (u ∷ v ∷ []) (rw two refl) l);
         reached = λ x. (k .reached x .0, λ _. k .reached x .1);
       }
 
-  pub onward-single : (a : ℕ) (r : Cursor) → s .characters ≡ 1 → a ≡ digitOf (getD w (c .place) 0)
+  pub onward-single : (a : ℕ) (r : Cursor) → OneCharacter s → DigitBelow 10 (getD w (c .place) 0) a
       → Child s (a % 2) (a / 2) c r → Onward s w c r
-  onward-single a r t p k =
-      let l : levelDigits s w ≡ a ∷ [] = rw (here, t, p) (map-one digitOf w (c .place) (omega (arith, d .at))) in
-      let two : s .columns ≡ 2 = d .single t in
+  onward-single a r o p k =
+      let u : ℕ = digitOf (getD w (c .place) 0) in
+      let one : s .characters ≡ 1 = o .one in
+      let two : s .columns ≡ 2 = o .two-columns in
+      let few : 2 * s .rows ≤ 10 = o .few-rows in
+      let l : levelDigits s w ≡ u ∷ [] = rw (here, one) (map-one digitOf w (c .place) (omega (arith, d .at))) in
       record {
-        read = k .read ∙ single-guards (c .place) (s .length - 1) (c .place) (ltb (a % 2) (s .columns)) (ltb (a / 2) (s .rows)) (childAt (a % 2) (a / 2)) (lt-ltb (a % 2) (s .columns) (omega arith)) (omega (arith, d .at)) ∙ sym (goes-on quad (a ∷ []) (rw (t, two) refl) l);
+        read = k .read
+            ∙ told p (λ x. guard (c .place) (ltb (x % 2) (s .columns)) (guard (s .length - 1) (ltb (x / 2) (s .rows)) (ok (childAt (x % 2) (x / 2))))) (bad (s .length - 1))
+            (λ m h. rw (lt-ltb (m % 2) (s .columns) (omega arith), le-ltb (m / 2) (s .rows) (omega arith)) refl)
+            ∙ single-guards (c .place) (s .length - 1) (c .place) (ltb (u % 2) (s .columns)) (ltb (u / 2) (s .rows)) (childAt (u % 2) (u / 2)) (lt-ltb (u % 2) (s .columns) (omega arith)) (omega (arith, d .at)) ∙ sym (goes-on quad (u ∷ []) (rw (one, two) refl) l);
         reached = λ x. (k .reached x .0, λ _. k .reached x .1);
       }
-
-  -- where no letters are needed, it is read without them
-  pub onward-decimal : (a b : ℕ) (r : Cursor) → Decimal s → a ≡ decimalDigit (getD w (c .place) 0) → b ≡ decimalDigit (getD w (c .place + 1) 0)
-      → Child s a b c r → Onward s w c r
-  onward-decimal a b r t p q k =
-      let u : ℕ = getD w (c .place) 0 in
-      let v : ℕ = getD w (c .place + 1) 0 in
-      let here : ℕ → ℕ → Read Node = λ column row. guard (s .length - 1) (ltb row (s .rows)) (ok (childAt column row)) in
-      onward-pair (digitOf u) (digitOf v) r (λ e. let z : s .characters ≡ 2 = t .two in absurd (omega arith)) refl refl
-      (record {
-        read = k .read ∙ rw (p, q) refl ∙ decimal-guard u (c .place) (s .columns) (λ x. here x (decimalDigit v)) (t .few-columns)
-            ∙ ap (guard (c .place) (ltb (digitOf u) (s .columns))) (decimal-guard v (s .length - 1) (s .rows) (λ y. ok (childAt (digitOf u) y)) (t .few-rows));
-        reached = k .reached;
-      })
 
 -- ---- the answer
 

@@ -9,13 +9,14 @@ ghost use Rattle.grid.specs.Tree.{bad};
 ghost use Rattle.grid.specs.Answers.{planeRead};
 ghost use Rattle.grid.specs.Splits.{first};
 ghost use Rattle.grid.specs.Plane.{sheet};
-ghost use Rattle.grid.specs.inner.Roads.{laterRead};
+ghost use Rattle.grid.specs.inner.Roads.{DigitBelow, laterRead};
 ghost use Rattle.ordinary_read.specs.inner.Reading.{
   ordinaryRead,
   ordinaryAnswer,
   Inside,
   DividedBy,
-  Decimal,
+  OneCharacter,
+  TwoCharacters,
   goesOn,
   LevelNext,
   AtSheet,
@@ -27,6 +28,19 @@ use grid::Cell;
 use grid::PlaneRead;
 use grid::Refusal;
 use grid::Split;
+
+// A character's digit, as far as a test against the limit can tell. Letters are looked for only where the limit needs them; a level's limits are
+// known when its reading is compiled, and the test here is gone.
+fn digit_below(limit: u32, b: u8) -> u32
+    requires { ⌜ limit ≤ 32 ⌝ }
+    ensures { λ r. ⌜ DigitBelow limit b r ⌝ }
+{
+    if limit <= 10 {
+        grid::decimal_value(b)
+    } else {
+        grid::value(b)
+    }
+}
 
 // The reading place, and the cell read so far: its quarter, the outward indices where it begins, and its size.
 // Once a character is not allowed the cursor is no longer good, and its place is that character's.
@@ -106,36 +120,31 @@ impl Cursor {
         }
     }
 
-    // Past the characters of the level s, where the cursor goes on; else where it was.
-    // Two characters are column, then row; one is 2 · row + column.
-    fn next(self, s: Split, code: &[u8]) -> Cursor
-        requires { ⌜ LevelNext s (length (now code)) self ⌝ }
+    // Past the two characters of the level s, column and then row, where the cursor goes on; else where it was.
+    fn pair(self, s: Split, code: &[u8]) -> Cursor
+        requires { ⌜ LevelNext s (length (now code)) self × TwoCharacters s ⌝ }
         ensures { λ r. ⌜ Onward s (now (code .entry)) self r ⌝ }
     {
         if !self.goes_on(s, code) {
             return self;
         }
         let at = self.place;
-        let first = grid::digit(code[at]);
-        if s.characters == 1 {
-            return self.child(s, first % 2, first / 2);
-        }
-        let second = grid::digit(code[at + 1]);
-        self.child(s, first, second)
+        let column = digit_below(s.columns, code[at]);
+        let row = digit_below(s.rows, code[at + 1]);
+        self.child(s, column, row)
     }
 
-    // The same past the two characters of a level that needs no letters.
-    fn next_decimal(self, s: Split, code: &[u8]) -> Cursor
-        requires { ⌜ LevelNext s (length (now code)) self × Decimal s ⌝ }
+    // The same past the one character of the level s, 2 · row + column.
+    fn single(self, s: Split, code: &[u8]) -> Cursor
+        requires { ⌜ LevelNext s (length (now code)) self × OneCharacter s ⌝ }
         ensures { λ r. ⌜ Onward s (now (code .entry)) self r ⌝ }
     {
         if !self.goes_on(s, code) {
             return self;
         }
         let at = self.place;
-        let column = grid::decimal(code[at]);
-        let row = grid::decimal(code[at + 1]);
-        self.child(s, column, row)
+        let both = grid::decimal_value(code[at]);
+        self.child(s, both % 2, both / 2)
     }
 
     // What the reader answers.
@@ -167,14 +176,14 @@ pub fn rest(level: u32, north: bool, zone: u32, row: u32, code: &[u8]) -> PlaneR
     ensures { λ r. ⌜ planeRead r ≡ laterRead level (sheet north zone row) (now (code .entry)) ⌝ }
 {
     Cursor::start(north, zone, row)
-        .next(grid::split_of(1), code)
-        .next(grid::split_of(2), code)
-        .next(grid::split_of(3), code)
-        .next(grid::split_of(4), code)
-        .next(grid::split_of(5), code)
-        .next_decimal(grid::split_of(6), code)
-        .next_decimal(grid::split_of(7), code)
-        .next_decimal(grid::split_of(8), code)
-        .next_decimal(grid::split_of(9), code)
+        .pair(grid::split_of(1), code)
+        .single(grid::split_of(2), code)
+        .pair(grid::split_of(3), code)
+        .pair(grid::split_of(4), code)
+        .single(grid::split_of(5), code)
+        .pair(grid::split_of(6), code)
+        .pair(grid::split_of(7), code)
+        .pair(grid::split_of(8), code)
+        .pair(grid::split_of(9), code)
         .answer(level)
 }

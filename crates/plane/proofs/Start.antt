@@ -1,20 +1,24 @@
 -- The first four characters of a plane code: what each test of the reader says of the rule.
 -- Assumes nothing.
 use mathlib.Core.Path.{_≡_, refl, sym, _∙_, ap}
-use mathlib.Core.Bool.{Bool, true, false}
+use mathlib.Core.Bool.{Bool, true, false, _||_}
 use mathlib.Core.List.{List, [], _∷_, map}
-use Prim.Native.Nat.{ℕ, _+_, _-_, _*_, _/_, _≤_, _<_}
+use Prim.Native.Nat.{ℕ, _+_, _-_, _*_, _/_, _%_, _^_, _≤_, _<_}
+use native.Mathlib.Nat.{zero-mul, mul-zero, mul-pos, mul-le-mul}
 use native.Mathlib.Omega.{arith}
-use lib.Dec.{ltb}
+use mir.Syntax.{w32}
+use mir.Val.{Fits}
+use lib.Dec.{leb, eqb}
 use lib.ListN.{length, take, getD}
-use borrow.Author.Tests.{ltb-true, ltb-false, lt-ltb, le-ltb, le-leb, lt-leb, eq-eqb, ne-eqb}
+use borrow.Author.Tests.{lt-ltb, le-ltb, le-leb, lt-leb, eqb-true, eqb-false, eq-eqb, ne-eqb}
 use Rattle.grid.specs.Characters.{charOf, digitOf}
-use Rattle.grid.specs.inner.Roads.{decimalDigit}
+use Rattle.grid.specs.inner.Roads.{DigitBelow}
 use Rattle.grid.specs.Splits.{first}
-use Rattle.grid.specs.Tree.{Read, ok, bad}
+use Rattle.grid.specs.Tree.{Read, ok, bad, guard}
 use Rattle.grid.specs.Plane.{Node, pole, sheet, letter, globeChild}
-use Rattle.grid.proofs.Characters.{digit-char, char-digit, decimal-below, decimal-above}
-use Rattle.plane.specs.inner.Start.{letteredRead, zonedRead}
+use Rattle.grid.proofs.Cut.{clash}
+use Rattle.grid.proofs.Characters.{digit-char, char-digit, told}
+use Rattle.plane.specs.inner.Start.{northOrSouth, letteredRead, zonedRead}
 
 module _ (n : Bool) (z d : ℕ) where
   pub letter-low : d < 10 → bad 3 ≡ letteredRead n z d
@@ -73,19 +77,15 @@ four (a ∷ b ∷ []) h = absurd (omega arith)
 four (a ∷ b ∷ c ∷ []) h = absurd (omega arith)
 four (a ∷ b ∷ c ∷ d ∷ l) h = refl
 
--- the zone is read without letters
-zoned-decimal : (n : Bool) (x y d : ℕ) → zonedRead n (decimalDigit x) (decimalDigit y) d ≡ zonedRead n (digitOf x) (digitOf y) d
+-- the zone and what follows it are read by what tells their digits
+zoned-told : (n : Bool) {x y u b c d : ℕ} → DigitBelow 10 x b → DigitBelow 10 y c → DigitBelow 32 u d → zonedRead n b c d ≡ zonedRead n (digitOf x) (digitOf y) (digitOf u)
 unfolding zonedRead
-zoned-decimal n x y d = go (ltb (digitOf x) 10) refl (ltb (digitOf y) 10) refl
-  where
-    go : (p : Bool) → ltb (digitOf x) 10 ≡ p → (q : Bool) → ltb (digitOf y) 10 ≡ q → zonedRead n (decimalDigit x) (decimalDigit y) d ≡ zonedRead n (digitOf x) (digitOf y) d
-    go true e true f = rw (decimal-below x (ltb-true _ _ e), decimal-below y (ltb-true _ _ f)) refl
-    go true e false f =
-        let k : 10 ≤ digitOf y = ltb-false _ _ f in
-        rw (decimal-below x (ltb-true _ _ e), decimal-above y k, lt-leb (digitOf y) 9 (omega arith)) refl
-    go false e q f =
-        let k : 10 ≤ digitOf x = ltb-false _ _ e in
-        rw (decimal-above x k, lt-leb (10 * digitOf x) (first .columns) (omega arith)) refl
+zoned-told n {x} {y} {u} {b} {c} {d} p q r =
+    told p (λ b. zonedRead n b c d) (bad 1) (λ m h. sym (tens-high n m c d refl (omega arith)))
+    ∙ told q (λ c. zonedRead n (digitOf x) c d) (guard 1 (leb (10 * digitOf x) (first .columns)) (bad 2)) (λ m h. rw (lt-leb m 9 (omega arith)) refl)
+    ∙ told r (zonedRead n (digitOf x) (digitOf y)) (zonedRead n (digitOf x) (digitOf y) 32)
+    (λ m h. rw (ne-eqb m 0 (λ e. omega arith), ← letter-high n (10 * digitOf x + digitOf y) m refl (omega arith) (omega arith)) (
+    rw (← letter-high n (10 * digitOf x + digitOf y) 32 refl (omega arith) (omega arith)) refl))
 
 -- after N or S, it is the rule's
 zoned-child : (n : Bool) (b c d : ℕ) → zonedRead n b c d ≡ globeChild (letter n ∷ b ∷ c ∷ d ∷ [])
@@ -100,22 +100,49 @@ letter-is b v h e = ap digitOf e ∙ digit-char v h
 letter-is-not : (b v : ℕ) → v < 32 → (b ≡ charOf v → ⊥) → digitOf b ≡ v → ⊥
 letter-is-not b v h f e = f (sym (char-digit b (omega arith)) ∙ ap charOf e)
 
+-- the product of a byte's distances from N and from S, taken around the 8 bits
+pub stray-small : (n s : ℕ) → n < 256 → s < 256 → Fits w32 (n * s)
+stray-small n s u v =
+    let m : n * s ≤ 255 * 255 = mul-le-mul {n₂ = 255} {m₂ = 255} (omega arith) (omega arith) in
+    omega arith
+
+pub stray-is : (a n s : ℕ) → (n + 78) % 2 ^ 8 ≡ a → (s + 83) % 2 ^ 8 ≡ a → n < 256 → s < 256 → eqb (n * s) 0 ≡ northOrSouth a
+stray-is a n s e f u v = go (eqb n 0) refl (eqb s 0) refl
+  where
+    go : (p : Bool) → eqb n 0 ≡ p → (q : Bool) → eqb s 0 ≡ q → eqb (n * s) 0 ≡ northOrSouth a
+    go true p q r =
+        let z : n ≡ 0 = eqb-true _ _ p in
+        rw (z, zero-mul s, eq-eqb a 78 (omega arith)) refl
+    go false p true r =
+        let z : s ≡ 0 = eqb-true _ _ r in
+        rw (z, mul-zero n, ne-eqb a 78 (λ x. omega arith), eq-eqb a 83 (omega arith)) refl
+    go false p false r =
+        let y : n ≡ 0 → ⊥ = eqb-false _ _ p in
+        let z : s ≡ 0 → ⊥ = eqb-false _ _ r in
+        let m : 0 < n * s = mul-pos (omega arith) (omega arith) in
+        rw (ne-eqb (n * s) 0 (λ x. omega arith), ne-eqb a 78 (λ x. omega arith), ne-eqb a 83 (λ x. omega arith)) refl
+
 module _ (l : List ℕ) (h : 4 ≤ length l) where
-  pub starts-neither : (getD l 0 0 ≡ 78 → ⊥) → (getD l 0 0 ≡ 83 → ⊥) → bad 0 ≡ globeChild (take 4 (map digitOf l))
+  pub starts-neither : northOrSouth (getD l 0 0) ≡ false → bad 0 ≡ globeChild (take 4 (map digitOf l))
   unfolding charOf
-  starts-neither e f =
-      rw (four l h, ne-eqb (digitOf (getD l 0 0)) 23 (letter-is-not _ 23 (omega arith) e), ne-eqb (digitOf (getD l 0 0)) 28 (letter-is-not _ 28 (omega arith) f)) refl
+  starts-neither = go (eqb (getD l 0 0) 78) refl
+    where
+      go : (q : Bool) → eqb (getD l 0 0) 78 ≡ q → (q || eqb (getD l 0 0) 83) ≡ false → bad 0 ≡ globeChild (take 4 (map digitOf l))
+      go true q e = clash (cc)
+      go false q e =
+          rw (four l h, ne-eqb (digitOf (getD l 0 0)) 23 (letter-is-not _ 23 (omega arith) (eqb-false _ _ q)), ne-eqb (digitOf (getD l 0 0)) 28 (letter-is-not _ 28 (omega arith) (eqb-false _ _ e))) refl
 
-  module _ {b c d : ℕ} (eb : b ≡ decimalDigit (getD l 1 0)) (ec : c ≡ decimalDigit (getD l 2 0)) (ed : d ≡ digitOf (getD l 3 0)) where
-    starts : (n : Bool) {r : Read Node} → digitOf (getD l 0 0) ≡ letter n → r ≡ zonedRead n b c d → r ≡ globeChild (take 4 (map digitOf l))
-    starts n e q =
-        let z : zonedRead n b c d ≡ zonedRead n (digitOf (getD l 1 0)) (digitOf (getD l 2 0)) (digitOf (getD l 3 0)) = rw (eb, ec, ed) (zoned-decimal n (getD l 1 0) (getD l 2 0) (digitOf (getD l 3 0))) in
-        q ∙ z ∙ zoned-child n (digitOf (getD l 1 0)) (digitOf (getD l 2 0)) (digitOf (getD l 3 0)) ∙ rw (four l h, e) refl
+  -- the letter is N or S
+  starts-letter : northOrSouth (getD l 0 0) ≡ true → digitOf (getD l 0 0) ≡ letter (eqb (getD l 0 0) 78)
+  unfolding charOf
+  starts-letter = go (eqb (getD l 0 0) 78) refl
+    where
+      go : (q : Bool) → eqb (getD l 0 0) 78 ≡ q → (q || eqb (getD l 0 0) 83) ≡ true → digitOf (getD l 0 0) ≡ letter q
+      go true q e = letter-is _ 23 (omega arith) (eqb-true _ _ q)
+      go false q e = letter-is _ 28 (omega arith) (eqb-true _ _ e)
 
-    pub starts-north : {r : Read Node} → getD l 0 0 ≡ 78 → r ≡ zonedRead true b c d → r ≡ globeChild (take 4 (map digitOf l))
-    unfolding charOf
-    starts-north e q = starts true (letter-is _ 23 (omega arith) e) q
-
-    pub starts-south : {r : Read Node} → getD l 0 0 ≡ 83 → r ≡ zonedRead false b c d → r ≡ globeChild (take 4 (map digitOf l))
-    unfolding charOf
-    starts-south e q = starts false (letter-is _ 28 (omega arith) e) q
+  pub starts-zoned : {b c d : ℕ} {r : Read Node} → DigitBelow 10 (getD l 1 0) b → DigitBelow 10 (getD l 2 0) c → DigitBelow 32 (getD l 3 0) d
+      → northOrSouth (getD l 0 0) ≡ true → r ≡ zonedRead (eqb (getD l 0 0) 78) b c d → r ≡ globeChild (take 4 (map digitOf l))
+  starts-zoned x y z e q =
+      let n : Bool = eqb (getD l 0 0) 78 in
+      q ∙ zoned-told n x y z ∙ zoned-child n (digitOf (getD l 1 0)) (digitOf (getD l 2 0)) (digitOf (getD l 3 0)) ∙ rw (four l h, starts-letter e) refl

@@ -4,6 +4,7 @@
 ghost use mathlib.Core.List.{map};
 ghost use mathlib.Core.Path.{_≡_};
 ghost use Prim.Native.Nat.{_-_, _≤_, _<_};
+ghost use lib.Dec.{eqb};
 ghost use lib.ListN.{length, take};
 ghost use lib.Seq.{sets};
 ghost use Rattle.grid.specs.Units.{HALF, QUARTER, index};
@@ -16,7 +17,7 @@ ghost use Rattle.grid.specs.inner.Roads.{squareOf};
 ghost use Rattle.plane.specs.Text.{planeText, levelNumber};
 ghost use Rattle.plane.specs.inner.Asking.{askedText, Fitting, Same, Placed, PlaneWritable};
 ghost use Rattle.plane.specs.inner.Lengths.{levelOf};
-ghost use Rattle.plane.specs.inner.Start.{firstRead, Ranged, letteredRead, zonedRead};
+ghost use Rattle.plane.specs.inner.Start.{firstRead, Ranged, northOrSouth, letteredRead, zonedRead};
 use grid::Place;
 use grid::PlaneRead;
 use grid::Refusal;
@@ -122,22 +123,29 @@ fn zoned(north: bool, b: u32, c: u32, d: u32) -> First
     }
 }
 
+// 0 for N and for S alone. One number, not two tests: which of them a code begins with cannot be foretold, and a branch on it costs as much
+// as reading the level.
+fn stray(a: u8) -> u32
+    ensures { λ r. ⌜ eqb r 0 ≡ northOrSouth a ⌝ }
+{
+    let from_n = std::num::wrapping_sub_u8(a, b'N') as u32;
+    let from_s = std::num::wrapping_sub_u8(a, b'S') as u32;
+    from_n * from_s
+}
+
 // The first four characters of a code.
 fn begin(code: &[u8]) -> First
     requires { ⌜ 4 ≤ length (now code) ⌝ }
     ensures { λ r. ⌜ (firstRead r ≡ globeChild (take 4 (map digitOf (now (code .entry))))) × Ranged r ⌝ }
 {
     let a = code[0];
-    let b = grid::decimal(code[1]);
-    let c = grid::decimal(code[2]);
-    let d = grid::digit(code[3]);
-    if a == b'N' {
-        return zoned(true, b, c, d);
+    let b = grid::decimal_value(code[1]);
+    let c = grid::decimal_value(code[2]);
+    let d = grid::value(code[3]);
+    if stray(a) != 0 {
+        return First::Bad(0);
     }
-    if a == b'S' {
-        return zoned(false, b, c, d);
-    }
-    First::Bad(0)
+    zoned(a == b'N', b, c, d)
 }
 
 // What a position writer is asked for, once refusals 1, 2 and 3 are decided in that order.

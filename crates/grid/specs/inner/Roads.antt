@@ -1,9 +1,8 @@
--- What the roads of plane codes share: the square of a place, where a level's characters begin, decimal digits, and reading on from level 1.
+-- What the roads of plane codes share: the square of a place, where a level's characters begin, what tells a digit, and reading on from level 1.
 -- Assumes nothing.
-use mathlib.Core.Bool.{cond}
+use mathlib.Core.Path.{_≡_}
 use mathlib.Core.List.{List, map}
-use Prim.Native.Nat.{ℕ, _-_}
-use lib.Dec.{ltb}
+use Prim.Native.Nat.{ℕ, _-_, min}
 use lib.ListN.{take, drop}
 use Rattle.grid.specs.declared.Cell.{Cell}
 use Rattle.grid.specs.declared.Place.{Place}
@@ -24,9 +23,9 @@ squareOf p = record { longitude = unit (p .east) (p .x); latitude = unit (p .nor
 abbrev pub placeOf : Split → ℕ
 placeOf t = t .length - t .characters
 
--- a byte's digit where it is one of 0 to 9; 32 where it is not
-unfoldable pub decimalDigit : ℕ → ℕ
-decimalDigit b = cond (ltb (digitOf b) 10) (digitOf b) 32
+-- r tells a byte's digit below n: it is that digit, or both are n or more
+pub record DigitBelow (n b r : ℕ) : Type 0 where
+  pub tells : min r n ≡ min (digitOf b) n
 
 -- what reading on from a cell of level 1 answers: the rest of the code w of level l, after its first four characters
 unfoldable pub laterRead : ℕ → Node → List ℕ → Answer Cell

@@ -65,7 +65,7 @@ pub record LevelCell (s : Split) (c : Cursor) : Type 0 where
   pub high : c .height ≡ s .height
   pub at : c .place ≡ s .length
 
--- the level s divides its cell, and the level's one or two characters come next
+-- the level s divides its cell, and the level's characters come next
 pub record DividedBy (s : Split) (c : Cursor) : Type 0 where
   pub wide : s .columns * s .width ≡ c .width
   pub high : s .rows * s .height ≡ c .height
@@ -73,14 +73,18 @@ pub record DividedBy (s : Split) (c : Cursor) : Type 0 where
   pub some-height : 0 < s .height
   pub at : c .place + s .characters ≡ s .length
   pub some-characters : 1 ≤ s .characters
-  pub few-characters : s .characters ≤ 2
-  pub single : s .characters ≡ 1 → s .columns ≡ 2
 
--- the level s has two characters, and needs no letters
-pub record Decimal (s : Split) : Type 0 where
+-- the level s has two characters, and there is a character for each of its columns and rows
+pub record TwoCharacters (s : Split) : Type 0 where
   pub two : s .characters ≡ 2
-  pub few-columns : s .columns ≤ 10
-  pub few-rows : s .rows ≤ 10
+  pub few-columns : s .columns ≤ 32
+  pub few-rows : s .rows ≤ 32
+
+-- the level s has one character for its two columns and its rows, and needs no letters
+pub record OneCharacter (s : Split) : Type 0 where
+  pub one : s .characters ≡ 1
+  pub two-columns : s .columns ≡ 2
+  pub few-rows : 2 * s .rows ≤ 10
 
 -- all was allowed so far, and a code of n characters has the level s
 abbrev pub goesOn : Split → ℕ → Cursor → Bool

@@ -1,64 +1,60 @@
 -- `plane::begin` meets its contract. Assumes nothing.
-use Rattle.plane.proofs.Start.{starts-north, starts-south, starts-neither}
+use mathlib.Core.Path.{sym, _∙_}
 use borrow.Author.Needs.{needs}
+use borrow.Author.Tests.{eq-eqb, ne-eqb}
+use Rattle.plane.proofs.Start.{starts-neither, starts-zoned}
 use Rattle.plane.proofs.begin.Statement.{statement}
 use Rattle.plane.proofs.begin.Tie as tie
 
 shared-slice-read-a : tie.Need-shared-slice-read-a
 shared-slice-read-a c = search needs
 
-shared-slice-read-decimal : tie.Need-shared-slice-read-decimal
-shared-slice-read-decimal c = search needs
+shared-slice-read-decimal-value : tie.Need-shared-slice-read-decimal-value
+shared-slice-read-decimal-value c = search needs
 
-decimal-requires : tie.Need-decimal-requires
-decimal-requires c κs = search needs
+decimal-value-requires : tie.Need-decimal-value-requires
+decimal-value-requires c κs = search needs
 
-shared-slice-read-decimal-2 : tie.Need-shared-slice-read-decimal-2
-shared-slice-read-decimal-2 c = search needs
+shared-slice-read-decimal-value-2 : tie.Need-shared-slice-read-decimal-value-2
+shared-slice-read-decimal-value-2 c = search needs
 
-decimal-requires-2 : tie.Need-decimal-requires-2
-decimal-requires-2 c κs = search needs
+decimal-value-requires-2 : tie.Need-decimal-value-requires-2
+decimal-value-requires-2 c κs = search needs
 
-shared-slice-read-digit : tie.Need-shared-slice-read-digit
-shared-slice-read-digit c = search needs
+shared-slice-read-value : tie.Need-shared-slice-read-value
+shared-slice-read-value c = search needs
 
-digit-requires : tie.Need-digit-requires
-digit-requires c κs = search needs
+value-requires : tie.Need-value-requires
+value-requires c κs = search needs
 
-zoned-requires : tie.Need-zoned-requires
-zoned-requires c κs = search needs
+stray-requires : tie.Need-stray-requires
+stray-requires c κs = search needs
 
 returns : tie.Need-returns
 returns c =
     let s = c .before .before .before .before .before .before .before .before .before .before in
-    (starts-north (s .args .code .now) (s .pre) (c .before .before .before .before .before .before .decimal .ensures) (c .before .before .before .before .decimal2 .ensures) (c .before .before .digit .ensures) (c .before .if1 .taken) (c .zoned .ensures .0), c .zoned .ensures .1)
+    (starts-neither (s .args .code .now) (s .pre) (sym (c .before .stray .ensures) ∙ ne-eqb _ 0 (c .if1 .taken)), tt)
 
-zoned-requires-2 : tie.Need-zoned-requires-2
-zoned-requires-2 c κs = search needs
+zoned-requires : tie.Need-zoned-requires
+zoned-requires c κs = search needs
 
 returns-2 : tie.Need-returns-2
 returns-2 c =
     let s = c .before .before .before .before .before .before .before .before .before .before .before in
-    (starts-south (s .args .code .now) (s .pre) (c .before .before .before .before .before .before .before .decimal .ensures) (c .before .before .before .before .before .decimal2 .ensures) (c .before .before .before .digit .ensures) (c .before .if2 .taken) (c .zoned2 .ensures .0), c .zoned2 .ensures .1)
-
-returns-3 : tie.Need-returns-3
-returns-3 c =
-    let s = c .before .before .before .before .before .before .before .before .before .before in
-    (starts-neither (s .args .code .now) (s .pre) (c .before .if1 .left) (c .if2 .left), tt)
+    (starts-zoned (s .args .code .now) (s .pre) (c .before .before .before .before .before .before .before .decimal-value .ensures) (c .before .before .before .before .before .decimal-value2 .ensures) (c .before .before .before .value .ensures) (sym (c .before .before .stray .ensures) ∙ eq-eqb _ 0 (c .before .if1 .left)) (c .zoned .ensures .0), c .zoned .ensures .1)
 
 pub begin-spec : {M : Type 1} → statement M
 begin-spec =
     tie.close
     (tie.spec
     shared-slice-read-a
-    shared-slice-read-decimal
-    decimal-requires
-    shared-slice-read-decimal-2
-    decimal-requires-2
-    shared-slice-read-digit
-    digit-requires
-    zoned-requires
+    shared-slice-read-decimal-value
+    decimal-value-requires
+    shared-slice-read-decimal-value-2
+    decimal-value-requires-2
+    shared-slice-read-value
+    value-requires
+    stray-requires
     returns
-    zoned-requires-2
-    returns-2
-    returns-3)
+    zoned-requires
+    returns-2)

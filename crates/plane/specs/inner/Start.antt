@@ -1,6 +1,6 @@
 -- The first four characters of a plane code, as the reader finds them.
 -- Assumes nothing.
-use mathlib.Core.Bool.{Bool, cond, _&&_}
+use mathlib.Core.Bool.{Bool, cond, _&&_, _||_}
 use Prim.Native.Nat.{ℕ, _+_, _-_, _*_, _≤_, _<_}
 use lib.Dec.{ltb, leb, eqb}
 use Rattle.grid.specs.Splits.{first}
@@ -20,6 +20,10 @@ abbrev pub Ranged : First → Type 0
 Ranged (Sheet n z r) = (1 ≤ z) × (z ≤ first .columns) × (r < first .rows)
 Ranged (Pole n) = Unit {0}
 Ranged (Bad p) = Unit {0}
+
+-- whether a byte is N, 78, or S, 83
+abbrev pub northOrSouth : ℕ → Bool
+northOrSouth a = eqb a 78 || eqb a 83
 
 -- the row letter d of the zone z
 unfoldable pub letteredRead : Bool → ℕ → ℕ → Read Node
