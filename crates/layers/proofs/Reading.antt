@@ -1,38 +1,27 @@
 -- What reading each level makes of the layers read so far.
 -- Assumes nothing.
 use mathlib.Core.Path.{_≡_, refl, sym, _∙_, ap, subst}
-use mathlib.Core.Bool.{Bool, true, false, not, cond, _&&_}
+use mathlib.Core.Bool.{Bool, true, false, not}
 use mathlib.Core.List.{List, [], _∷_, map}
-use Prim.Native.Nat.{ℕ, zero, suc, _+_, _-_, _*_, _/_, _≤_, _<_}
+use Prim.Native.Nat.{ℕ, zero, suc, _+_, _*_, _/_, _≤_, _<_}
 use native.Mathlib.Omega.{arith}
 use native.Mathlib.Nat.{mul-div-right}
 use native.Mathlib.Numerals.{add-one}
-use lib.Dec.{ltb, leb, eqb}
+use lib.Dec.{ltb, eqb}
 use lib.ListN.{length, getD, take, drop, length-take, length-map, drop-of-length-le, List·getD-map}
 use lib.Seq.{drop-cons, getD-take}
-use borrow.Author.Tests.{leb-true, lt-ltb, le-ltb, le-leb, lt-leb}
+use borrow.Author.Tests.{lt-ltb, le-ltb, le-leb, lt-leb}
 use Rattle.grid.specs.Characters.{digitOf}
+use Rattle.grid.specs.inner.Roads.{DigitBelow}
 use Rattle.grid.specs.Tree.{Read, ok, bad, guard, shift, next, follow}
 use Rattle.grid.specs.Layers.{product, Stack, part, allChild}
-use Rattle.grid.proofs.Cut.{clash, and-true, cut-end}
+use Rattle.grid.proofs.Cut.{clash, cut-end}
 use Rattle.grid.proofs.Laws.{shift-shift}
+use Rattle.grid.proofs.Characters.{told}
 use Rattle.layers.specs.declared.Height.{Height}
 use Rattle.layers.specs.Heights.{laterHeight, heightLevels, heightRead}
 use Rattle.layers.specs.inner.Steps.{heightOf, Fair, thicknessAt, Readable, BadAt, HeightFirst, heightRest, Upto}
 use Rattle.layers.proofs.Radices.{ten, product-fits, first-radix, later-radix, thick-top, thick-step}
-
--- a byte's digit is at most 32
-pub digit-most : (b : ℕ) → digitOf b ≤ 32
-unfolding digitOf
-digit-most b = go (leb 48 b && leb b 57) refl
-  where
-    letters : (q : Bool) → (leb 65 b && leb b 86) ≡ q → cond q (b - 55) 32 ≤ 32
-    letters true e = let h : b ≤ 86 = leb-true b 86 (and-true (leb 65 b) (leb b 86) e .1) in omega arith
-    letters false e = omega arith
-
-    go : (q : Bool) → (leb 48 b && leb b 57) ≡ q → cond q (b - 48) (cond (leb 65 b && leb b 86) (b - 55) 32) ≤ 32
-    go true e = let h : b ≤ 57 = leb-true b 57 (and-true (leb 48 b) (leb b 57) e .1) in omega arith
-    go false e = letters (leb 65 b && leb b 86) refl
 
 bad-read : {p : ℕ} {h : Height} → BadAt p h → heightOf h ≡ bad p
 bad-read b = rw (b .none, b .place) refl
@@ -65,6 +54,10 @@ module _ (rs : List ℕ) (s a b : ℕ) (e : Fair rs) where
   first-sign l x = stops x (rw (le-ltb s 2 l) refl)
 
   module _ (p : s < 2) where
+    -- with tens from 10 on the number is 100 or more
+    pub first-hundred : {h : Height} → 9 < a → BadAt 1 h → HeightFirst rs s a b h
+    first-hundred l x = stops x (rw (lt-ltb s 2 p, le-ltb (10 * a) r (omega (arith, first-radix rs e .few))) refl)
+
     pub first-tens : {h : Height} → r ≤ 10 * a → BadAt 1 h → HeightFirst rs s a b h
     first-tens l x = stops x (rw (lt-ltb s 2 p, le-ltb (10 * a) r l) refl)
 
@@ -102,14 +95,24 @@ three (x ∷ []) h = absurd (omega arith)
 three (x ∷ y ∷ []) h = absurd (omega arith)
 three (x ∷ y ∷ z ∷ w) h = refl
 
+-- what tells these digits below 10 leads to the same layers
+as-told : (top r : ℕ) {x y z s a b : ℕ} → r ≤ 100 → DigitBelow 10 x s → DigitBelow 10 y a → DigitBelow 10 z b
+    → allChild top r (s ∷ a ∷ b ∷ []) ≡ allChild top r (digitOf x ∷ digitOf y ∷ digitOf z ∷ [])
+as-told top r {x} {y} {z} {s} {a} {b} h i j k =
+    told i (λ m. allChild top r (m ∷ a ∷ b ∷ [])) (bad 0) (λ m n. rw (le-ltb m 2 (omega arith)) refl)
+    ∙ told j (λ m. allChild top r (digitOf x ∷ m ∷ b ∷ [])) (guard 0 (ltb (digitOf x) 2) (bad 1)) (λ m n. rw (le-ltb (10 * m) r (omega arith)) refl)
+    ∙ told k (λ m. allChild top r (digitOf x ∷ digitOf y ∷ m ∷ [])) (guard 0 (ltb (digitOf x) 2) (guard 1 (ltb (10 * digitOf y) r) (bad 2)))
+    (λ m n. rw (lt-leb m 9 (omega arith)) refl)
+
 pub started : (rs : List ℕ) (level : ℕ) (w : List ℕ) {s a b : ℕ} {h : Height} → Fair rs → Readable level (length w)
-    → s ≡ digitOf (getD w 0 0) → a ≡ digitOf (getD w 1 0) → b ≡ digitOf (getD w 2 0) → HeightFirst rs s a b h → Upto rs level 1 w h
+    → DigitBelow 10 (getD w 0 0) s → DigitBelow 10 (getD w 1 0) a → DigitBelow 10 (getD w 2 0) b → HeightFirst rs s a b h → Upto rs level 1 w h
 unfolding heightRead follow
 started rs zero w e d i j k f = absurd (omega (arith, d .some-level))
 started [] (suc l) w e d i j k f = clash (let t = e .test in cc)
 started (r ∷ rs) (suc l) w {h = h} e d i j k f =
     let m : 3 ≤ length w = omega (arith, d .exactly) in
-    let c : allChild (product (r ∷ rs)) r (take 3 (map digitOf w)) ≡ heightOf h = rw (three w m, ← i, ← j, ← k) (sym (f .read)) in
+    let c : allChild (product (r ∷ rs)) r (take 3 (map digitOf w)) ≡ heightOf h =
+    rw (three w m) (sym (f .read ∙ as-told (product (r ∷ rs)) r (first-radix (r ∷ rs) e .few) i j k)) in
     record {
       whole = ap (λ x. next 3 x (heightRest (r ∷ rs) (suc l) 1 w)) c;
       thick = λ g o. f .thick g;
@@ -185,11 +188,11 @@ module _ (rs : List ℕ) (level k : ℕ) (w : List ℕ) (e : Fair rs) (from : 1 
         ∙ ap (λ y. next (k + 2) y (heightRest rs level k w)) (let z : heightOf h ≡ ok (part (h .above) (h .low) (h .thick)) = rw good refl in z)
         ∙ ap (shift (k + 2)) (rest-step l (h .above) (h .low) (h .thick))
 
-    pub upto-refused : {x : ℕ} {g : Height} → x ≡ v → q ≤ x → BadAt (k + 2) g → Upto rs level (k + 1) w g
+    pub upto-refused : {x : ℕ} {g : Height} → DigitBelow q (getD w (k + 2) 0) x → q ≤ x → BadAt (k + 2) g → Upto rs level (k + 1) w g
     upto-refused i m b =
         let z : k + 2 + 0 ≡ k + 2 = omega arith in
         record {
-          whole = before ∙ rw (le-ltb v q (subst (λ (y : ℕ). q ≤ y) i m), bad-read b, z) refl;
+          whole = before ∙ rw (le-ltb v q (omega (arith, i .tells)), bad-read b, z) refl;
           thick = λ o j. bad-never b o;
           inside = bad-never b;
         }
@@ -201,7 +204,10 @@ module _ (rs : List ℕ) (level k : ℕ) (w : List ℕ) (e : Fair rs) (from : 1 
       child : h .thick / q ≡ t
       child = ap (λ (y : ℕ). y / q) (sym cell) ∙ mul-div-right t {m = q} (later-radix rs k e from to .more)
 
-      module _ (x : ℕ) (i : x ≡ v) (m : x < q) where
+      module _ (x : ℕ) (i : DigitBelow q (getD w (k + 2) 0) x) (m : x < q) where
+        same : x ≡ v
+        same = omega (arith, i .tells)
+
         end : h .low + x * t + t ≤ product rs
         end = let c = cut-end x q t (h .thick) m cell in omega (arith, u .inside good)
 
@@ -213,7 +219,7 @@ module _ (rs : List ℕ) (level k : ℕ) (w : List ℕ) (e : Fair rs) (from : 1 
             let s : k + 2 + 1 ≡ k + 1 + 2 = omega arith in
             let o = heightRest rs level (k + 1) w (part (h .above) (h .low + x * t) t) in
             record {
-              whole = before ∙ rw (lt-ltb v q (subst (λ (y : ℕ). y < q) i m), child, ← i) (shift-shift (k + 2) 1 o ∙ ap (λ (y : ℕ). shift y o) s);
+              whole = before ∙ rw (lt-ltb v q (subst (λ (y : ℕ). y < q) same m), child, ← same) (shift-shift (k + 2) 1 o ∙ ap (λ (y : ℕ). shift y o) s);
               thick = λ g j. is;
               inside = λ g. end;
             }

@@ -1,6 +1,7 @@
 pub mod Weaving
 pub mod Tables
 pub mod Spreading
+pub mod Taking
 pub mod Parts
 pub mod Reading
 pub mod Writing

@@ -43,6 +43,21 @@ agree-same false false e = refl
 pub within : {n m : ℕ} (j : ℕ) → n ≡ m → ltb j m ≡ true → j < n
 within {n} {m} j e h = let w : j < m = ltb-true j m h in omega arith
 
+-- the test of level k decides whether a part has its character j, in a code of each level
+pub past : (many : ℕ → ℕ) {level : ℕ} → 1 ≤ level → level ≤ 10 → (k j : ℕ) → allBelow (λ i. agree (ltb k (suc i)) (ltb j (many (suc i)))) 10 ≡ true → ltb k level ≡ ltb j (many level)
+past many {level} low high k j e =
+    let z : suc (level - 1) ≡ level = omega (arith, low) in
+    agree-same (ltb k level) (ltb j (many level)) (rw z at (below (λ i. agree (ltb k (suc i)) (ltb j (many (suc i)))) 10 (level - 1) e (omega (arith, low, high))))
+
+-- a code that goes past level k has the place p
+pub reach : {level : ℕ} {code : List ℕ} → SpaceRoom level code → (k p : ℕ) → allBelow (λ i. leb (suc i) k || ltb p (getD spaceLengths i 0)) 10 ≡ true → k < level → p < length code
+reach {level} room k p e h =
+    let low = room .level-low in
+    let z : suc (level - 1) ≡ level = omega (arith, low) in
+    let t : (leb level k || ltb p (getD spaceLengths (level - 1) 0)) ≡ true = rw z at (below (λ i. leb (suc i) k || ltb p (getD spaceLengths i 0)) 10 (level - 1) e (omega (arith, low, room .level-high))) in
+    let w : p < getD spaceLengths (level - 1) 0 = ltb-true _ _ (rw (lt-leb level k h) at t) in
+    omega (arith, room .room)
+
 -- a part of a code of a level laid into a line: `many` is how many characters the part has at each level, and `place` where they stand
 module _ (place many : ℕ → ℕ) (part line : List ℕ) (level : ℕ) where
   -- its first j characters are laid, or as many of them as there are
@@ -59,21 +74,9 @@ module _ (place many : ℕ → ℕ) (part line : List ℕ) (level : ℕ) where
   upto-all {j} u h = let z : min (many level) j ≡ many level = omega arith in u .is ∙ rw z refl
 
   module _ {size : ℕ} (room : SpaceRoom level line) (full : length part ≡ size) where
-    low : 1 ≤ level
-    low = room .level-low
-
-    high : level ≤ 10
-    high = room .level-high
-
-    -- the test of level k decides whether there is a character j
-    test : (k j : ℕ) → allBelow (λ i. agree (ltb k (suc i)) (ltb j (many (suc i)))) 10 ≡ true → ltb k level ≡ ltb j (many level)
-    test k j e =
-        let z : suc (level - 1) ≡ level = omega (arith, low) in
-        agree-same (ltb k level) (ltb j (many level)) (rw z at (below (λ i. agree (ltb k (suc i)) (ltb j (many (suc i)))) 10 (level - 1) e (omega (arith, low, high))))
-
     pub upto-one : (k j : ℕ) {l m : List ℕ} → allBelow (λ i. agree (ltb k (suc i)) (ltb j (many (suc i)))) 10 ≡ true → ltb j size ≡ true → Upto j l
         → m ≡ stored (ltb k level) (place j) (getD part j 0) l → Upto (suc j) m
-    upto-one k j {l} e h u f = record { is = f ∙ rw (test k j e) (go (ltb j (many level)) refl) }
+    upto-one k j {l} e h u f = record { is = f ∙ rw (past many (room .level-low) (room .level-high) k j e) (go (ltb j (many level)) refl) }
       where
         go : (q : Bool) → ltb j (many level) ≡ q → stored q (place j) (getD part j 0) l ≡ spread place 0 (take (min (many level) (suc j)) part) line
         go true q =
@@ -97,11 +100,7 @@ module _ (place many : ℕ → ℕ) (part line : List ℕ) (level : ℕ) where
 
     -- where the code goes past level k, the line has the place p
     pub room-at : (k p : ℕ) {j : ℕ} {l : List ℕ} → allBelow (λ i. leb (suc i) k || ltb p (getD spaceLengths i 0)) 10 ≡ true → Upto j l → k < level → p < length l
-    room-at k p e u h =
-        let z : suc (level - 1) ≡ level = omega (arith, low) in
-        let t : (leb level k || ltb p (getD spaceLengths (level - 1) 0)) ≡ true = rw z at (below (λ i. leb (suc i) k || ltb p (getD spaceLengths i 0)) 10 (level - 1) e (omega (arith, low, high))) in
-        let w : p < getD spaceLengths (level - 1) 0 = ltb-true _ _ (rw (lt-leb level k h) at t) in
-        omega (arith, upto-length u, room .room)
+    room-at k p e u h = omega (arith, upto-length u, reach room k p e h)
 
 -- a rule at each number below n, shown one by one
 abbrev Each : (ℕ → Type 0) → ℕ → Type 0

@@ -132,75 +132,118 @@ fn height_place(p: usize) -> usize
     if p < 12 { HEIGHT_PLACES[p] as usize } else { 0 }
 }
 
+// ---- characters copied
+
+// The byte i of the one to a place in the other, in a code that goes past level k; in another, nothing.
+fn one(level: u32, k: u32, from: &[u8], i: usize, to: &mut [u8], at: usize)
+    requires { ⌜ (k < level → (i < length (now from)) × (at < length (now to))) ⌝ }
+    ensures { λ _. ⌜ now (to .exit) ≡ stored (ltb k level) at (getD (now (from .entry)) i 0) (now (to .entry)) ⌝ }
+{
+    if level <= k {
+        return;
+    }
+    to[at] = from[i];
+}
+
+// Two bytes so.
+fn two(level: u32, k: u32, from: &[u8], i: usize, j: usize, to: &mut [u8], at: usize, then: usize)
+    requires { ⌜ (k < level → (i < length (now from)) × (j < length (now from)) × (at < length (now to)) × (then < length (now to))) ⌝ }
+    ensures { λ _. ⌜ now (to .exit) ≡ stored (ltb k level) then (getD (now (from .entry)) j 0) (stored (ltb k level) at (getD (now (from .entry)) i 0) (now (to .entry))) ⌝ }
+{
+    if level <= k {
+        return;
+    }
+    to[at] = from[i];
+    to[then] = from[j];
+}
+
 // ---- taken apart
 
-// The byte at a place, 0 past the end.
-fn byte_at(code: &[u8], i: usize) -> u8
-    ensures { λ r. ⌜ r ≡ getD (now (code .entry)) i 0 ⌝ }
+// The plane character i, from its place in a space code; and that one and the next.
+fn plane_take(level: u32, k: u32, code: &[u8], i: usize, part: &mut [u8])
+    requires { ⌜ (k < level → planePlace i < length (now code)) × (i < length (now part)) ⌝ }
+    ensures { λ _. ⌜ now (part .exit) ≡ stored (ltb k level) i (getD (now (code .entry)) (planePlace i) 0) (now (part .entry)) ⌝ }
 {
-    if i < code.len() { code[i] } else { 0 }
+    one(level, k, code, plane_place(i), part, i);
 }
 
-// The plane character p of a space code.
-fn plane_byte(code: &[u8], p: usize) -> u8
-    ensures { λ r. ⌜ r ≡ getD (now (code .entry)) (planePlace p) 0 ⌝ }
+fn plane_take_two(level: u32, k: u32, code: &[u8], i: usize, part: &mut [u8])
+    requires { ⌜ (k < level → planePlace i < length (now code)) × (k < level → planePlace (i + 1) < length (now code)) × (i + 1 < length (now part)) ⌝ }
+    ensures { λ _. ⌜ now (part .exit) ≡ stored (ltb k level) (i + 1) (getD (now (code .entry)) (planePlace (i + 1)) 0) (stored (ltb k level) i (getD (now (code .entry)) (planePlace i) 0) (now (part .entry))) ⌝ }
 {
-    byte_at(code, plane_place(p))
+    let next = i + 1;
+    two(
+        level,
+        k,
+        code,
+        plane_place(i),
+        plane_place(next),
+        part,
+        i,
+        next,
+    );
 }
 
-// The height character p of a space code.
-fn height_byte(code: &[u8], p: usize) -> u8
-    ensures { λ r. ⌜ r ≡ getD (now (code .entry)) (heightPlace p) 0 ⌝ }
+// The plane characters of a space code of a level, from the part's first byte on.
+fn plane_part(level: u32, code: &[u8], part: &mut [u8])
+    requires { ⌜ SpaceRoom level (now code) × (length (now part) ≡ 20) ⌝ }
+    ensures { λ _. ⌜ take (splitAt (level - 1) .length) (now (part .exit)) ≡ take (splitAt (level - 1) .length) (planePart (now (code .entry))) ⌝ }
 {
-    byte_at(code, height_place(p))
+    plane_take(level, 0, code, 0, part);
+    plane_take(level, 0, code, 1, part);
+    plane_take_two(level, 0, code, 2, part);
+    plane_take_two(level, 1, code, 4, part);
+    plane_take(level, 2, code, 6, part);
+    plane_take_two(level, 3, code, 7, part);
+    plane_take_two(level, 4, code, 9, part);
+    plane_take(level, 5, code, 11, part);
+    plane_take_two(level, 6, code, 12, part);
+    plane_take_two(level, 7, code, 14, part);
+    plane_take_two(level, 8, code, 16, part);
+    plane_take_two(level, 9, code, 18, part);
 }
 
-// The plane characters of a space code.
-fn plane_part(code: &[u8]) -> [u8; 20]
-    ensures { λ r. ⌜ r ≡ planePart (now (code .entry)) ⌝ }
+// The height character i, from its place in a space code; and that one and the next.
+fn height_take(level: u32, k: u32, code: &[u8], i: usize, part: &mut [u8])
+    requires { ⌜ (k < level → heightPlace i < length (now code)) × (i < length (now part)) ⌝ }
+    ensures { λ _. ⌜ now (part .exit) ≡ stored (ltb k level) i (getD (now (code .entry)) (heightPlace i) 0) (now (part .entry)) ⌝ }
 {
-    [
-        plane_byte(code, 0),
-        plane_byte(code, 1),
-        plane_byte(code, 2),
-        plane_byte(code, 3),
-        plane_byte(code, 4),
-        plane_byte(code, 5),
-        plane_byte(code, 6),
-        plane_byte(code, 7),
-        plane_byte(code, 8),
-        plane_byte(code, 9),
-        plane_byte(code, 10),
-        plane_byte(code, 11),
-        plane_byte(code, 12),
-        plane_byte(code, 13),
-        plane_byte(code, 14),
-        plane_byte(code, 15),
-        plane_byte(code, 16),
-        plane_byte(code, 17),
-        plane_byte(code, 18),
-        plane_byte(code, 19),
-    ]
+    one(level, k, code, height_place(i), part, i);
 }
 
-// The height characters of a space code.
-fn height_part(code: &[u8]) -> [u8; 12]
-    ensures { λ r. ⌜ r ≡ heightPart (now (code .entry)) ⌝ }
+fn height_take_two(level: u32, k: u32, code: &[u8], i: usize, part: &mut [u8])
+    requires { ⌜ (k < level → heightPlace i < length (now code)) × (k < level → heightPlace (i + 1) < length (now code)) × (i + 1 < length (now part)) ⌝ }
+    ensures { λ _. ⌜ now (part .exit) ≡ stored (ltb k level) (i + 1) (getD (now (code .entry)) (heightPlace (i + 1)) 0) (stored (ltb k level) i (getD (now (code .entry)) (heightPlace i) 0) (now (part .entry))) ⌝ }
 {
-    [
-        height_byte(code, 0),
-        height_byte(code, 1),
-        height_byte(code, 2),
-        height_byte(code, 3),
-        height_byte(code, 4),
-        height_byte(code, 5),
-        height_byte(code, 6),
-        height_byte(code, 7),
-        height_byte(code, 8),
-        height_byte(code, 9),
-        height_byte(code, 10),
-        height_byte(code, 11),
-    ]
+    let next = i + 1;
+    two(
+        level,
+        k,
+        code,
+        height_place(i),
+        height_place(next),
+        part,
+        i,
+        next,
+    );
+}
+
+// The height characters of a space code of a level, from the part's first byte on.
+fn height_part(level: u32, code: &[u8], part: &mut [u8])
+    requires { ⌜ SpaceRoom level (now code) × (length (now part) ≡ 12) ⌝ }
+    ensures { λ _. ⌜ take (2 + level) (now (part .exit)) ≡ take (2 + level) (heightPart (now (code .entry))) ⌝ }
+{
+    height_take(level, 0, code, 0, part);
+    height_take_two(level, 0, code, 1, part);
+    height_take(level, 1, code, 3, part);
+    height_take(level, 2, code, 4, part);
+    height_take(level, 3, code, 5, part);
+    height_take(level, 4, code, 6, part);
+    height_take(level, 5, code, 7, part);
+    height_take(level, 6, code, 8, part);
+    height_take(level, 7, code, 9, part);
+    height_take(level, 8, code, 10, part);
+    height_take(level, 9, code, 11, part);
 }
 
 // ---- writing
@@ -232,29 +275,6 @@ fn ask(level: i64, longitude: i64, latitude: i64, layer: i64) -> AskedSpace
     }
 }
 
-// The character i of a part at a place in the line, in a code that goes past level k; in another, nothing.
-fn one(level: u32, k: u32, part: &[u8], i: usize, line: &mut [u8], at: usize)
-    requires { ⌜ (i < length (now part)) × (k < level → at < length (now line)) ⌝ }
-    ensures { λ _. ⌜ now (line .exit) ≡ stored (ltb k level) at (getD (now (part .entry)) i 0) (now (line .entry)) ⌝ }
-{
-    if level <= k {
-        return;
-    }
-    line[at] = part[i];
-}
-
-// That character and the next, at two places.
-fn two(level: u32, k: u32, part: &[u8], i: usize, line: &mut [u8], at: usize, then: usize)
-    requires { ⌜ (i + 1 < length (now part)) × (k < level → at < length (now line)) × (k < level → then < length (now line)) ⌝ }
-    ensures { λ _. ⌜ now (line .exit) ≡ stored (ltb k level) then (getD (now (part .entry)) (i + 1) 0) (stored (ltb k level) at (getD (now (part .entry)) i 0) (now (line .entry))) ⌝ }
-{
-    if level <= k {
-        return;
-    }
-    line[at] = part[i];
-    line[then] = part[i + 1];
-}
-
 // The plane character i at its place in the space code; and that one and the next.
 fn plane_one(level: u32, k: u32, part: &[u8], i: usize, line: &mut [u8])
     requires { ⌜ (i < length (now part)) × (k < level → planePlace i < length (now line)) ⌝ }
@@ -267,7 +287,17 @@ fn plane_two(level: u32, k: u32, part: &[u8], i: usize, line: &mut [u8])
     requires { ⌜ (i + 1 < length (now part)) × (k < level → planePlace i < length (now line)) × (k < level → planePlace (i + 1) < length (now line)) ⌝ }
     ensures { λ _. ⌜ now (line .exit) ≡ stored (ltb k level) (planePlace (i + 1)) (getD (now (part .entry)) (i + 1) 0) (stored (ltb k level) (planePlace i) (getD (now (part .entry)) i 0) (now (line .entry))) ⌝ }
 {
-    two(level, k, part, i, line, plane_place(i), plane_place(i + 1));
+    let next = i + 1;
+    two(
+        level,
+        k,
+        part,
+        i,
+        next,
+        line,
+        plane_place(i),
+        plane_place(next),
+    );
 }
 
 // The plane characters of a code of a level, each at its place in the space code.
@@ -301,14 +331,16 @@ fn height_two(level: u32, k: u32, part: &[u8], i: usize, line: &mut [u8])
     requires { ⌜ (i + 1 < length (now part)) × (k < level → heightPlace i < length (now line)) × (k < level → heightPlace (i + 1) < length (now line)) ⌝ }
     ensures { λ _. ⌜ now (line .exit) ≡ stored (ltb k level) (heightPlace (i + 1)) (getD (now (part .entry)) (i + 1) 0) (stored (ltb k level) (heightPlace i) (getD (now (part .entry)) i 0) (now (line .entry))) ⌝ }
 {
+    let next = i + 1;
     two(
         level,
         k,
         part,
         i,
+        next,
         line,
         height_place(i),
-        height_place(i + 1),
+        height_place(next),
     );
 }
 
@@ -435,20 +467,22 @@ fn joined(a: PlaneRead, h: LayersRead) -> SpaceRead
 
 // The plane code of a space code, read.
 fn plane_of(level: u32, code: &[u8]) -> PlaneRead
-    requires { ⌜ (1 ≤ level) × (level ≤ 10) ⌝ }
+    requires { ⌜ SpaceRoom level (now code) ⌝ }
     ensures { λ r. ⌜ planeRead r ≡ cellOf (take (splitAt (level - 1) .length) (planePart (now (code .entry)))) ⌝ }
 {
-    let p = plane_part(code);
+    let mut p = [0u8; 20];
+    plane_part(level, code, &mut p);
     let n = plane::length_of(level);
     plane::read(&p[..n])
 }
 
 // The height characters of a space code, read.
 fn height_of(level: u32, code: &[u8]) -> LayersRead
-    requires { ⌜ (1 ≤ level) × (level ≤ 10) ⌝ }
+    requires { ⌜ SpaceRoom level (now code) ⌝ }
     ensures { λ r. ⌜ layersAnswer r ≡ heightAnswer radices level (map digitOf (take (2 + level) (heightPart (now (code .entry))))) ⌝ }
 {
-    let h = height_part(code);
+    let mut h = [0u8; 12];
+    height_part(level, code, &mut h);
     let n = 2 + level as usize;
     layers::read(level, &h[..n])
 }

@@ -7,7 +7,7 @@ height-place-requires : tie.Need-height-place-requires
 height-place-requires c κs = search needs
 
 one-requires : tie.Need-one-requires
-one-requires c κs = let s = c .before .before .before .before in (s .pre .0, λ h. rw (c .height-place .ensures) (s .pre .1 h))
+one-requires c κs = let s = c .before .before .before .before in λ h. (s .pre .0, rw (c .height-place .ensures) (s .pre .1 h))
 
 same-length : tie.Need-same-length
 same-length c = search needs

@@ -8,11 +8,11 @@ use Rattle.space.proofs.one.Tie as tie
 returns : tie.Need-returns
 returns c = rw (le-ltb _ _ (c .if1 .taken)) refl
 
-shared-slice-read-line : tie.Need-shared-slice-read-line
-shared-slice-read-line c = search needs
+shared-slice-read-to : tie.Need-shared-slice-read-to
+shared-slice-read-to c = c .before .before .pre (c .before .if1 .left) .0
 
-slice-write-line : tie.Need-slice-write-line
-slice-write-line c = c .before .before .pre .1 (c .before .if1 .left)
+slice-write-to : tie.Need-slice-write-to
+slice-write-to c = c .before .before .pre (c .before .if1 .left) .1
 
 same-length : tie.Need-same-length
 same-length c = search needs
@@ -22,4 +22,4 @@ returns-2 c = rw (lt-ltb _ _ (c .before .if1 .left)) refl
 
 pub one-spec : {M : Type 1} → statement M
 one-spec =
-    tie.close (tie.spec returns shared-slice-read-line slice-write-line same-length returns-2)
+    tie.close (tie.spec returns shared-slice-read-to slice-write-to same-length returns-2)

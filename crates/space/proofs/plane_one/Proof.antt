@@ -7,7 +7,7 @@ plane-place-requires : tie.Need-plane-place-requires
 plane-place-requires c κs = search needs
 
 one-requires : tie.Need-one-requires
-one-requires c κs = let s = c .before .before .before .before in (s .pre .0, λ h. rw (c .plane-place .ensures) (s .pre .1 h))
+one-requires c κs = let s = c .before .before .before .before in λ h. (s .pre .0, rw (c .plane-place .ensures) (s .pre .1 h))
 
 same-length : tie.Need-same-length
 same-length c = search needs

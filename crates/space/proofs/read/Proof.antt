@@ -1,7 +1,9 @@
 -- `space::read` meets its contract. Assumes nothing.
 use mathlib.Core.Path.{_∙_, ap}
+use native.Mathlib.Omega.{arith}
 use lib.ListN.{length}
 use Rattle.grid.specs.Answers as answers
+use Rattle.space.specs.inner.Asking.{SpaceRoom}
 use Rattle.space.proofs.Reading.{Leveled, leveled, read-none, read-joined, lying}
 use borrow.Author.Needs.{needs}
 use Rattle.space.proofs.read.Statement.{statement}
@@ -10,6 +12,10 @@ use Rattle.space.proofs.read.Tie as tie
 -- the level that was found is the code's
 known : (c : tie.Else1) → Leveled (length (c .before .before .before .args .code .now)) (c .before .level-of .result)
 known c = leveled _ (c .before .level-of .ensures) (c .if1 .left)
+
+-- and the code has its places
+room : (c : tie.Else1) → SpaceRoom (c .before .level-of .result) (c .before .before .before .args .code .now)
+room c = let t = known c in record { level-low = t .low; level-high = t .high; room = omega (arith, t .long) }
 
 level-of-requires : tie.Need-level-of-requires
 level-of-requires c κs = search needs
@@ -21,10 +27,10 @@ returns : tie.Need-returns
 returns c = ap answers.refused (c .refuse .ensures) ∙ read-none (c .before .before .before .before .args .code .now) (c .before .before .level-of .ensures) (c .before .if1 .taken)
 
 plane-of-requires : tie.Need-plane-of-requires
-plane-of-requires c κs = let t = known c in (t .low, t .high)
+plane-of-requires c κs = room c
 
 height-of-requires : tie.Need-height-of-requires
-height-of-requires c κs = let t = known (c .before) in (t .low, t .high)
+height-of-requires c κs = room (c .before)
 
 joined-requires : tie.Need-joined-requires
 joined-requires c κs = lying (c .before .before .before .level-of .result) _ (c .height-of .result) (c .height-of .ensures)

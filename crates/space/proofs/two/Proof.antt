@@ -9,20 +9,17 @@ use Rattle.space.proofs.two.Tie as tie
 returns : tie.Need-returns
 returns c = rw (le-ltb _ _ (c .if1 .taken)) refl
 
-shared-slice-read-line : tie.Need-shared-slice-read-line
-shared-slice-read-line c = search needs
+shared-slice-read-to : tie.Need-shared-slice-read-to
+shared-slice-read-to c = c .before .before .pre (c .before .if1 .left) .0
 
-slice-write-line : tie.Need-slice-write-line
-slice-write-line c = c .before .before .pre .1 (c .before .if1 .left)
+slice-write-to : tie.Need-slice-write-to
+slice-write-to c = c .before .before .pre (c .before .if1 .left) .2
 
-add-line : tie.Need-add-line
-add-line c = search needs
+shared-slice-read-to-2 : tie.Need-shared-slice-read-to-2
+shared-slice-read-to-2 c = c .before .before .before .pre (c .before .before .if1 .left) .1
 
-shared-slice-read-line-2 : tie.Need-shared-slice-read-line-2
-shared-slice-read-line-2 c = search needs
-
-slice-write-line-2 : tie.Need-slice-write-line-2
-slice-write-line-2 c = let h = c .before .before .before .pre .2 (c .before .before .if1 .left) in simp length-set h
+slice-write-to-2 : tie.Need-slice-write-to-2
+slice-write-to-2 c = let h = c .before .before .before .pre (c .before .before .if1 .left) .3 in simp length-set h
 
 same-length : tie.Need-same-length
 same-length c = search needs
@@ -35,10 +32,9 @@ two-spec =
     tie.close
     (tie.spec
     returns
-    shared-slice-read-line
-    slice-write-line
-    add-line
-    shared-slice-read-line-2
-    slice-write-line-2
+    shared-slice-read-to
+    slice-write-to
+    shared-slice-read-to-2
+    slice-write-to-2
     same-length
     returns-2)

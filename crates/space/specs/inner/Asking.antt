@@ -26,7 +26,7 @@ pub record SpaceFits (l : ℕ) (p : Place) (rise : ℕ) : Type 0 where
   pub high : p .y < QUARTER
   pub rise-in : rise < product radices
 
--- a level 1 to 10, and a line with room for its space code
+-- a level 1 to 10, and a line as long as its space codes at least
 pub record SpaceRoom (l : ℕ) (line : List ℕ) : Type 0 where
   pub level-low : 1 ≤ l
   pub level-high : l ≤ 10

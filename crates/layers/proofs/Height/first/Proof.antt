@@ -1,6 +1,6 @@
 -- `layers::Height::first` meets its contract. Assumes nothing.
 use native.Mathlib.Omega.{arith}
-use Rattle.layers.proofs.Reading.{first-sign, first-tens, first-ones, first-most, first-fits, first-read}
+use Rattle.layers.proofs.Reading.{first-sign, first-hundred, first-tens, first-ones, first-most, first-fits, first-read}
 use borrow.Author.Needs.{needs}
 use Rattle.layers.proofs.Height.first.Statement.{statement}
 use Rattle.layers.proofs.Height.first.Tie as tie
@@ -9,13 +9,9 @@ refused-requires : tie.Need-refused-requires
 refused-requires c κs = search needs
 
 returns : tie.Need-returns
-returns c = let s = c .before .before in first-sign (s .args .t1) (s .args .s) (s .args .a) (s .args .b) (s .pre .0) (c .before .if1 .taken) (c .refused .ensures)
-
-array-read-if2 : tie.Need-array-read-if2
-array-read-if2 c = search needs
-
-mul-if2 : tie.Need-mul-if2
-mul-if2 c = search needs
+returns c =
+    let s = c .before .before in
+    first-sign (s .args .t1) (s .args .s) (s .args .a) (s .args .b) (s .pre) (c .before .if1 .taken) (c .refused .ensures)
 
 refused-requires-2 : tie.Need-refused-requires-2
 refused-requires-2 c κs = search needs
@@ -23,7 +19,13 @@ refused-requires-2 c κs = search needs
 returns-2 : tie.Need-returns-2
 returns-2 c =
     let s = c .before .before .before in
-    first-tens (s .args .t1) (s .args .s) (s .args .a) (s .args .b) (s .pre .0) (c .before .before .if1 .left) (c .before .if2 .taken) (c .refused2 .ensures)
+    first-hundred (s .args .t1) (s .args .s) (s .args .a) (s .args .b) (s .pre) (c .before .before .if1 .left) (c .before .if2 .taken) (c .refused2 .ensures)
+
+array-read-if3 : tie.Need-array-read-if3
+array-read-if3 c = search needs
+
+mul-if3 : tie.Need-mul-if3
+mul-if3 c = search needs
 
 refused-requires-3 : tie.Need-refused-requires-3
 refused-requires-3 c κs = search needs
@@ -31,16 +33,7 @@ refused-requires-3 c κs = search needs
 returns-3 : tie.Need-returns-3
 returns-3 c =
     let s = c .before .before .before .before in
-    first-ones (s .args .t1) (s .args .s) (s .args .a) (s .args .b) (s .pre .0) (c .before .before .before .if1 .left) (c .before .before .if2 .left) (c .before .if3 .taken) (c .refused3 .ensures)
-
-array-read-if4 : tie.Need-array-read-if4
-array-read-if4 c = search needs
-
-mul-if4 : tie.Need-mul-if4
-mul-if4 c = search needs
-
-add-if4 : tie.Need-add-if4
-add-if4 c = search needs
+    first-tens (s .args .t1) (s .args .s) (s .args .a) (s .args .b) (s .pre) (c .before .before .before .if1 .left) (c .before .if3 .taken) (c .refused3 .ensures)
 
 refused-requires-4 : tie.Need-refused-requires-4
 refused-requires-4 c κs = search needs
@@ -48,7 +41,24 @@ refused-requires-4 c κs = search needs
 returns-4 : tie.Need-returns-4
 returns-4 c =
     let s = c .before .before .before .before .before in
-    first-most (s .args .t1) (s .args .s) (s .args .a) (s .args .b) (s .pre .0) (c .before .before .before .before .if1 .left) (c .before .before .before .if2 .left) (c .before .before .if3 .left) (c .before .if4 .taken) (c .refused4 .ensures)
+    first-ones (s .args .t1) (s .args .s) (s .args .a) (s .args .b) (s .pre) (c .before .before .before .before .if1 .left) (c .before .before .if3 .left) (c .before .if4 .taken) (c .refused4 .ensures)
+
+array-read-if5 : tie.Need-array-read-if5
+array-read-if5 c = search needs
+
+mul-if5 : tie.Need-mul-if5
+mul-if5 c = search needs
+
+add-if5 : tie.Need-add-if5
+add-if5 c = search needs
+
+refused-requires-5 : tie.Need-refused-requires-5
+refused-requires-5 c κs = search needs
+
+returns-5 : tie.Need-returns-5
+returns-5 c =
+    let s = c .before .before .before .before .before .before in
+    first-most (s .args .t1) (s .args .s) (s .args .a) (s .args .b) (s .pre) (c .before .before .before .before .before .if1 .left) (c .before .before .before .if3 .left) (c .before .before .if4 .left) (c .before .if5 .taken) (c .refused5 .ensures)
 
 thickness-requires : tie.Need-thickness-requires
 thickness-requires c κs = search needs
@@ -61,14 +71,14 @@ add-t11 c = search needs
 
 mul-t14 : tie.Need-mul-t14
 mul-t14 c =
-    let s = c .before .before .before .before .before in
-    let f = first-fits (s .args .t1) (s .args .s) (s .args .a) (s .args .b) (s .pre .0) _ (c .thickness .ensures) (c .before .if4 .left) in
+    let s = c .before .before .before .before .before .before in
+    let f = first-fits (s .args .t1) (s .args .s) (s .args .a) (s .args .b) (s .pre) _ (c .thickness .ensures) (c .before .if5 .left) in
     omega arith
 
-returns-5 : tie.Need-returns-5
-returns-5 c =
-    let s = c .before .before .before .before .before in
-    first-read (s .args .t1) (s .args .s) (s .args .a) (s .args .b) (s .pre .0) _ 3 (c .thickness .ensures) (c .before .before .before .before .if1 .left) (c .before .before .before .if2 .left) (c .before .before .if3 .left) (c .before .if4 .left)
+returns-6 : tie.Need-returns-6
+returns-6 c =
+    let s = c .before .before .before .before .before .before in
+    first-read (s .args .t1) (s .args .s) (s .args .a) (s .args .b) (s .pre) _ 3 (c .thickness .ensures) (c .before .before .before .before .before .if1 .left) (c .before .before .before .if3 .left) (c .before .before .if4 .left) (c .before .if5 .left)
 
 pub first-spec : {M : Type 1} → statement M
 first-spec =
@@ -76,19 +86,21 @@ first-spec =
     (tie.spec
     refused-requires
     returns
-    array-read-if2
-    mul-if2
     refused-requires-2
     returns-2
+    array-read-if3
+    mul-if3
     refused-requires-3
     returns-3
-    array-read-if4
-    mul-if4
-    add-if4
     refused-requires-4
     returns-4
+    array-read-if5
+    mul-if5
+    add-if5
+    refused-requires-5
+    returns-5
     thickness-requires
     mul-t10
     add-t11
     mul-t14
-    returns-5)
+    returns-6)

@@ -2,6 +2,7 @@
 use Prim.Native.Nat.{_+_}
 use native.Mathlib.Omega.{arith}
 use Rattle.layers.proofs.Reading.{marked, unmarked, upto-ended, upto-bad, upto-refused, upto-fits, upto-read}
+use Rattle.layers.proofs.Radices.{later-radix}
 use borrow.Author.Needs.{needs}
 use Rattle.layers.proofs.Height.next.Statement.{statement}
 use Rattle.layers.proofs.Height.next.Tie as tie
@@ -16,14 +17,20 @@ returns-2 c =
     let s = c .before .before .before .before in
     upto-bad (s .args .t2) (s .args .level) (s .args .k) (s .args .digits .now) (s .pre .0) (s .pre .1) (s .pre .2) (s .pre .3) (unmarked (s .args .self .good) (c .if2 .taken)) (s .pre .4)
 
-add-digit : tie.Need-add-digit
-add-digit c = search needs
+mul-digit-below : tie.Need-mul-digit-below
+mul-digit-below c = search needs
 
-shared-slice-read-digit : tie.Need-shared-slice-read-digit
-shared-slice-read-digit c = search needs
+array-read-digit-below : tie.Need-array-read-digit-below
+array-read-digit-below c = search needs
 
-digit-requires : tie.Need-digit-requires
-digit-requires c κs = search needs
+add-digit-below : tie.Need-add-digit-below
+add-digit-below c = search needs
+
+shared-slice-read-digit-below : tie.Need-shared-slice-read-digit-below
+shared-slice-read-digit-below c = search needs
+
+digit-below-requires : tie.Need-digit-below-requires
+digit-below-requires c κs = let s = c .before .before .before .before .before in later-radix (s .args .t2) (s .args .k) (s .pre .0) (s .pre .1) (s .pre .2) .few
 
 mul-if3 : tie.Need-mul-if3
 mul-if3 c = search needs
@@ -40,7 +47,7 @@ refused-requires c κs = search needs
 returns-3 : tie.Need-returns-3
 returns-3 c =
     let s = c .before .before .before .before .before .before .before .before in
-    upto-refused (s .args .t2) (s .args .level) (s .args .k) (s .args .digits .now) (s .pre .0) (s .pre .1) (s .pre .2) (s .pre .3) (c .before .before .before .before .before .before .if1 .left) (marked (s .args .self .good) (c .before .before .before .before .if2 .left)) (s .pre .4) (c .before .before .digit .ensures) (c .before .if3 .taken) (c .refused .ensures)
+    upto-refused (s .args .t2) (s .args .level) (s .args .k) (s .args .digits .now) (s .pre .0) (s .pre .1) (s .pre .2) (s .pre .3) (c .before .before .before .before .before .before .if1 .left) (marked (s .args .self .good) (c .before .before .before .before .if2 .left)) (s .pre .4) (c .before .before .digit-below .ensures) (c .before .if3 .taken) (c .refused .ensures)
 
 add-thickness : tie.Need-add-thickness
 add-thickness c = search needs
@@ -51,22 +58,22 @@ thickness-requires c κs = search needs
 add-t9 : tie.Need-add-t9
 add-t9 c = search needs
 
-mul-t15 : tie.Need-mul-t15
-mul-t15 c =
+mul-t13 : tie.Need-mul-t13
+mul-t13 c =
     let s = c .before .before .before .before .before .before .before .before in
-    let f = upto-fits (s .args .t2) (s .args .level) (s .args .k) (s .args .digits .now) (s .pre .0) (s .pre .1) (s .pre .2) (s .pre .3) (c .before .before .before .before .before .before .if1 .left) (marked (s .args .self .good) (c .before .before .before .before .if2 .left)) (s .pre .4) _ (c .thickness .ensures) _ (c .before .before .digit .ensures) (c .before .if3 .left) in
+    let f = upto-fits (s .args .t2) (s .args .level) (s .args .k) (s .args .digits .now) (s .pre .0) (s .pre .1) (s .pre .2) (s .pre .3) (c .before .before .before .before .before .before .if1 .left) (marked (s .args .self .good) (c .before .before .before .before .if2 .left)) (s .pre .4) _ (c .thickness .ensures) _ (c .before .before .digit-below .ensures) (c .before .if3 .left) in
     omega arith
 
-add-t18 : tie.Need-add-t18
-add-t18 c =
+add-t21 : tie.Need-add-t21
+add-t21 c =
     let s = c .before .before .before .before .before .before .before .before .before in
-    let f = upto-fits (s .args .t2) (s .args .level) (s .args .k) (s .args .digits .now) (s .pre .0) (s .pre .1) (s .pre .2) (s .pre .3) (c .before .before .before .before .before .before .before .if1 .left) (marked (s .args .self .good) (c .before .before .before .before .before .if2 .left)) (s .pre .4) _ (c .before .thickness .ensures) _ (c .before .before .before .digit .ensures) (c .before .before .if3 .left) in
+    let f = upto-fits (s .args .t2) (s .args .level) (s .args .k) (s .args .digits .now) (s .pre .0) (s .pre .1) (s .pre .2) (s .pre .3) (c .before .before .before .before .before .before .before .if1 .left) (marked (s .args .self .good) (c .before .before .before .before .before .if2 .left)) (s .pre .4) _ (c .before .thickness .ensures) _ (c .before .before .before .digit-below .ensures) (c .before .before .if3 .left) in
     omega arith
 
 returns-4 : tie.Need-returns-4
 returns-4 c =
     let s = c .before .before .before .before .before .before .before .before .before in
-    upto-read (s .args .t2) (s .args .level) (s .args .k) (s .args .digits .now) (s .pre .0) (s .pre .1) (s .pre .2) (s .pre .3) (c .before .before .before .before .before .before .before .if1 .left) (marked (s .args .self .good) (c .before .before .before .before .before .if2 .left)) (s .pre .4) _ (c .before .thickness .ensures) _ (c .before .before .before .digit .ensures) (c .before .before .if3 .left) (s .args .k + 3)
+    upto-read (s .args .t2) (s .args .level) (s .args .k) (s .args .digits .now) (s .pre .0) (s .pre .1) (s .pre .2) (s .pre .3) (c .before .before .before .before .before .before .before .if1 .left) (marked (s .args .self .good) (c .before .before .before .before .before .if2 .left)) (s .pre .4) _ (c .before .thickness .ensures) _ (c .before .before .before .digit-below .ensures) (c .before .before .if3 .left) (s .args .k + 3)
 
 pub next-spec : {M : Type 1} → statement M
 next-spec =
@@ -74,9 +81,11 @@ next-spec =
     (tie.spec
     returns
     returns-2
-    add-digit
-    shared-slice-read-digit
-    digit-requires
+    mul-digit-below
+    array-read-digit-below
+    add-digit-below
+    shared-slice-read-digit-below
+    digit-below-requires
     mul-if3
     array-read-if3
     add-refused
@@ -85,6 +94,6 @@ next-spec =
     add-thickness
     thickness-requires
     add-t9
-    mul-t15
-    add-t18
+    mul-t13
+    add-t21
     returns-4)
