@@ -82,6 +82,7 @@ static void plane_1(input *i) { place(i, 1, 0), plane_code(i); }
 static void polar_10(input *i) { place(i, 10, 1), plane_code(i); }
 static void space_10(input *i) { place(i, 10, 0), space_code(i); }
 static void space_5(input *i) { place(i, 5, 0), space_code(i); }
+static void polar_space_10(input *i) { place(i, 10, 1), space_code(i); }
 
 /* ---- calls; each notes where the stack stands before it */
 
@@ -126,6 +127,8 @@ static const struct {
     {"space write, level 5", space_5, space_write},
     {"space read, level 10", space_10, space_read},
     {"space read, level 5", space_5, space_read},
+    {"polar space write, level 10", polar_space_10, space_write},
+    {"polar space read, level 10", polar_space_10, space_read},
     {"reference write, levels 5 to 10", reference_code, reference_write},
     {"reference read, levels 5 to 10", reference_code, reference_read},
     {"arcseconds", plane_10, arcseconds},
