@@ -8,7 +8,6 @@ ghost use lib.IntN.{negsuc};
 ghost use lib.ListN.{length};
 ghost use lib.Seq.{sets};
 ghost use Rattle.grid.specs.Characters.{charOf, digitOf};
-ghost use Rattle.grid.specs.inner.Roads.{DigitBelow};
 ghost use Rattle.grid.specs.Layers.{radices, product, rise, sign, part, floorOf};
 ghost use Rattle.layers.specs.Heights.{askedOf, layerAsked, stackAnswer, heightAnswer, layersAnswer};
 ghost use Rattle.layers.specs.inner.Steps.{Fair, thicknessAt, layerOf, heightDigits, heightCharsAt, HeightWritable, heightOf, Readable, BadAt, HeightFirst, Upto};
@@ -159,18 +158,6 @@ fn refused(place: usize) -> Height
     }
 }
 
-// A character's digit, as far as a test against the radix can tell. A level's radix is known when its reading is compiled, and the test here is gone.
-fn digit_below(radix: u32, b: u8) -> u32
-    requires { ⌜ radix ≤ 32 ⌝ }
-    ensures { λ r. ⌜ DigitBelow radix b r ⌝ }
-{
-    if radix <= 10 {
-        grid::decimal_value(b)
-    } else {
-        grid::value(b)
-    }
-}
-
 impl Height {
     // After the sign and the two decimal digits of level 1.
     fn first(rs: [u32; 10], s: u32, a: u32, b: u32) -> Height
@@ -224,7 +211,7 @@ impl Height {
         if !self.good {
             return self;
         }
-        let v = digit_below(rs[k], digits[k + 2]);
+        let v = grid::digit_below(rs[k], digits[k + 2]);
         if rs[k] <= v {
             return refused(k + 2);
         }
