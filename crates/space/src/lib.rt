@@ -189,8 +189,7 @@ fn plane_part(level: u32, code: &[u8], part: &mut [u8])
     requires { ⌜ SpaceRoom level (now code) × (length (now part) ≡ 20) ⌝ }
     ensures { λ _. ⌜ take (splitAt (level - 1) .length) (now (part .exit)) ≡ take (splitAt (level - 1) .length) (planePart (now (code .entry))) ⌝ }
 {
-    plane_take(level, 0, code, 0, part);
-    plane_take(level, 0, code, 1, part);
+    plane_take_two(level, 0, code, 0, part);
     plane_take_two(level, 0, code, 2, part);
     plane_take_two(level, 1, code, 4, part);
     plane_take(level, 2, code, 6, part);
@@ -305,8 +304,7 @@ fn lay_plane(level: u32, part: &[u8], line: &mut [u8])
     requires { ⌜ SpaceRoom level (now line) × (length (now part) ≡ 20) ⌝ }
     ensures { λ _. ⌜ now (line .exit) ≡ spread planePlace 0 (take (splitAt (level - 1) .length) (now (part .entry))) (now (line .entry)) ⌝ }
 {
-    plane_one(level, 0, part, 0, line);
-    plane_one(level, 0, part, 1, line);
+    plane_two(level, 0, part, 0, line);
     plane_two(level, 0, part, 2, line);
     plane_two(level, 1, part, 4, line);
     plane_one(level, 2, part, 6, line);
