@@ -1,6 +1,6 @@
 #!/usr/bin/env bash
 # What has to be believed: no definition outside specs/inner rests on one inside, no name of specs/ means two things in two crates, and
-# docs/CONTRACTS.md names each file of the first kind and each must-fail edit.
+# docs/CONTRACTS.md names each file of the first kind, each public function and each must-fail edit.
 # It names what breaks this, and fails if something does.
 set -u
 cd "$(dirname "$(dirname "$(readlink -f "$0")")")" || exit 1
@@ -18,6 +18,10 @@ fi
 for file in "${believed[@]}" crates/*/must-fail/*.edit; do
   name=$(basename "$file" .antt)
   [ "$name" = Lib ] || grep -q -w -e "${name%.edit}" docs/CONTRACTS.md || { echo "statements: docs/CONTRACTS.md does not name $file" && status=1; }
+done
+
+for function in $(grep -h -o -E '^ *pub (extern "C" )?fn [a-z_]+' crates/*/src/*.rt | awk '{ print $NF }' | sort -u); do
+  grep -q -w -e "$function" docs/CONTRACTS.md || { echo "statements: docs/CONTRACTS.md does not name the function $function" && status=1; }
 done
 
 # the public types and functions of each crate; neither the fields of a record nor the lines that name a file
