@@ -9,7 +9,7 @@ README.md|crates.txt|rustfmt.toml|build|run|check|.gitignore|.ci/[a-z]+|
 crates/($crates)/(src/[a-z_/]+.rt|(specs|proofs)/[^ ]+.antt|must-fail/[a-z_]+.edit|stdin|stdout|args)|
 docs/[A-Z-]+.md|docs/landings/[^ /]+.md|docs/pictures/[^ /]+.svg|
 include/hailgully.(h|pc)|examples/[a-z_]+.(c|stdout)|
-(tests|bench|bindings/raw|bindings/rust)/([a-z0-9_/]+.(rs|c|sh|py|txt)|README.md|Cargo.(toml|lock))
+(tests|bench|bindings/raw|bindings/rust)/([a-z0-9_/]+.(rs|c|h|sh|py|txt)|README.md|Cargo.(toml|lock))
 )\$"
 pattern=${pattern//$'\n'/}
 files=$(git ls-files) && [ -n "$files" ] || { echo 'files: git names no file here' && exit 1; }
