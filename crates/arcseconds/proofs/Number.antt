@@ -1,14 +1,14 @@
 -- Refusal 11: what a comparison of a reading with itself tells, and how the answer goes on from there.
 -- Assumes nothing.
 use mathlib.Core.Path.{_≡_, refl, sym, ap, ap₂, subst}
-use mathlib.Core.Bool.{Bool, true, false, not, cond, _||_, false≢true}
+use mathlib.Core.Bool.{Bool, true, false, not, _||_, false≢true}
 use lib.IntN.{ℤ}
 use lib.Dec.{T}
 use lib.Ieee.{Float, nan, inf, fin, isNan, ne}
 use lib.Ieee.Bits.{is-true, is-false}
 use lib.Ieee.Compare.{differs-from-itself}
 use Rattle.grid.specs.Units.{HALF, QUARTER}
-use Rattle.grid.specs.Answers.{Answer, refused, refusal}
+use Rattle.grid.specs.Answers.{Answer, refused, refusal, unless}
 use Rattle.arcseconds.specs.Readings.{readingOf, unitsAt, unitsOf}
 
 -- a reading differs from itself exactly where it is not a number
@@ -23,7 +23,7 @@ no-nan (inf s) h = tt
 no-nan (fin s m e) h = tt
 
 -- the answer, given whether either is not a number and what each reading comes to
-pub decided : (x y : Float) (q : Bool) (a b : Answer ℤ) → (isNan x || isNan y) ≡ q → readingOf 2 HALF x ≡ a → readingOf 3 QUARTER y ≡ b → unitsOf x y ≡ cond q (refused (refusal 11 0)) (unitsAt a b)
+pub decided : (x y : Float) (q : Bool) (a b : Answer ℤ) → (isNan x || isNan y) ≡ q → readingOf 2 HALF x ≡ a → readingOf 3 QUARTER y ≡ b → unitsOf x y ≡ unless (not q) (refusal 11 0) (unitsAt a b)
 unfolding unitsOf
 decided x y q a b e f g = rw (e, f, g)
 

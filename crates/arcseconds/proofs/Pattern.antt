@@ -38,17 +38,17 @@ use mir.Val.{SFits, toZ, ofZ}
 use mir.ValLaws.{toZ-pos, toZ-ofZ}
 use Rattle.grid.specs.Units.{index, unit}
 use Rattle.grid.proofs.PlaneLaws.{index-unit}
-use Rattle.grid.specs.Answers.{Answer, accepted, refused, refusal}
+use Rattle.grid.specs.Answers.{Answer, accepted, refused, refusal, unless}
 use Rattle.arcseconds.specs.Readings.{greatestWhole, inRange, readingOf}
 use Rattle.arcseconds.proofs.Whole.{whole-same, whole-tiny, whole-index}
 
 -- ---- a number in a range, and one outside it
 
 pub inside : (k H : ℕ) (u : ℤ) → index u < H → inRange k H u ≡ accepted u
-inside k H u h = ap (λ (t : Bool). cond t (accepted u) (refused (refusal k 0))) (lt-ltb (index u) H h)
+inside k H u h = ap (λ (t : Bool). unless t (refusal k 0) (accepted u)) (lt-ltb (index u) H h)
 
 pub beyond : (k H : ℕ) (u : ℤ) → H ≤ index u → inRange k H u ≡ refused (refusal k 0)
-beyond k H u h = ap (λ (t : Bool). cond t (accepted u) (refused (refusal k 0))) (le-ltb (index u) H h)
+beyond k H u h = ap (λ (t : Bool). unless t (refusal k 0) (accepted u)) (le-ltb (index u) H h)
 
 -- ---- the reading depends on the sign and the value alone
 

@@ -1,14 +1,14 @@
 -- Arc-second readings in whole units (document 01, "Arc-seconds"; refusals 11, 2, 3).
 -- A finite f64 is its sign s, whole significand m and power of two e: m * 2 ^ e, below 0 where s is true; 2 ^ e is `up e` / `down e`.
 -- Assumes nothing.
-use mathlib.Core.Bool.{Bool, true, false, not, cond, _||_}
+use mathlib.Core.Bool.{Bool, true, false, not, _||_}
 use Prim.Native.Nat.{ℕ, zero, suc, _*_, _/_, _<_}
 use lib.IntN.{ℤ, pos, negsuc, negℤ, sucℤ, _*ℤ_}
 use lib.Signed.{_≤ℤ_, _<ℤ_}
 use lib.Dec.{T, ltb}
 use lib.Ieee.{Float, nan, inf, fin, up, down, isNan}
 use Rattle.grid.specs.Units.{HALF, QUARTER, index}
-use Rattle.grid.specs.Answers.{Answer, accepted, refused, refusal}
+use Rattle.grid.specs.Answers.{Answer, accepted, refused, refusal, unless, andThen}
 use Rattle.arcseconds.specs.declared.Units.{Units}
 use Rattle.arcseconds.specs.declared.UnitsRead.{UnitsRead}
 use Rattle.arcseconds.specs.declared.UnitsRead.the-variants.{Found, Refused}
@@ -21,7 +21,7 @@ greatestWhole true (suc n) d = negsuc (n / d)
 
 -- a unit number in a range that ends half units either way from 0, or refusal n
 abbrev pub inRange : ℕ → ℕ → ℤ → Answer ℤ
-inRange n half u = cond (ltb (index u) half) (accepted u) (refused (refusal n 0))
+inRange n half u = unless (ltb (index u) half) (refusal n 0) (accepted u)
 
 -- one reading: the greatest whole units not above 2048 times it, or refusal n; either infinity is outside every range
 unfoldable pub readingOf : ℕ → ℕ → Float → Answer ℤ
@@ -35,14 +35,12 @@ units u v = record { longitude = u; latitude = v }
 
 -- the longitude's refusal, then the latitude's, else the position
 unfoldable pub unitsAt : Answer ℤ → Answer ℤ → Answer Units
-unitsAt (refused r) y = refused r
-unitsAt (accepted u) (refused r) = refused r
-unitsAt (accepted u) (accepted v) = accepted (units u v)
+unitsAt x y = andThen x (λ u. andThen y (λ v. accepted (units u v)))
 
 -- 11: either reading is not a number; then 2: longitude outside its range; then 3: latitude outside its range
 unfoldable pub unitsOf : Float → Float → Answer Units
 unitsOf x y =
-    cond (isNan x || isNan y) (refused (refusal 11 0)) (unitsAt (readingOf 2 HALF x) (readingOf 3 QUARTER y))
+    unless (not (isNan x || isNan y)) (refusal 11 0) (unitsAt (readingOf 2 HALF x) (readingOf 3 QUARTER y))
 
 -- the answer in the paper's numbers: the units, or the refusal
 abbrev pub unitsRead : UnitsRead → Answer Units

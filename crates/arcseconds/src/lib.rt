@@ -7,7 +7,7 @@ ghost use Prim.Native.Nat.{ℕ, _-_, _/_, _^_, _<_};
 ghost use lib.Dec.{T};
 ghost use lib.IntN.{pos};
 ghost use lib.Ieee.{isNan};
-ghost use Rattle.grid.specs.Answers.{refused, refusal, planeRead};
+ghost use Rattle.grid.specs.Answers.{planeRead};
 ghost use Rattle.grid.specs.Plane.{cellOf};
 ghost use Rattle.arcseconds.specs.Readings.{readingOf, unitsAt, unitsOf, unitsRead};
 ghost use Rattle.arcseconds.specs.Boxes.{Exactly, BoxOf, BoxSays};
@@ -77,25 +77,14 @@ fn axis(x: f64, half: u64) -> Reading
     Reading::Whole(-1 - (outward as i32))
 }
 
-// A refusal by its number, with place 0 and ordinal 1.
-fn refuse(number: u32) -> UnitsRead
-    ensures { λ r. ⌜ unitsRead r ≡ refused (refusal number 0) ⌝ }
-{
-    UnitsRead::Refused(Refusal {
-        number,
-        place: 0,
-        ordinal: 1,
-    })
-}
-
 // Two readings that are numbers: 2, then 3.
 fn position(longitude: Reading, latitude: Reading) -> UnitsRead
     ensures { λ r. ⌜ unitsRead r ≡ unitsAt (readingAnswer 2 longitude) (readingAnswer 3 latitude) ⌝ }
 {
     match longitude {
-        Reading::Outside => refuse(2),
+        Reading::Outside => UnitsRead::Refused(grid::refuse(2)),
         Reading::Whole(u) => match latitude {
-            Reading::Outside => refuse(3),
+            Reading::Outside => UnitsRead::Refused(grid::refuse(3)),
             Reading::Whole(v) => UnitsRead::Found(Units {
                 longitude: u,
                 latitude: v,
@@ -109,10 +98,10 @@ pub fn read(longitude: f64, latitude: f64) -> UnitsRead
     ensures { λ r. ⌜ unitsRead r ≡ unitsOf longitude latitude ⌝ }
 {
     if longitude != longitude {
-        return refuse(11);
+        return UnitsRead::Refused(grid::refuse(11));
     }
     if latitude != latitude {
-        return refuse(11);
+        return UnitsRead::Refused(grid::refuse(11));
     }
     position(axis(longitude, HALF), axis(latitude, QUARTER))
 }

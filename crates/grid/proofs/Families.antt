@@ -76,7 +76,6 @@ pub record Sound (K : Codes) : Type 1 where
   pub covers-in : (l : ℕ) (n : K .tree .Node) (s : K .tree .Point) → laws .Good [] n → On s → Covers (K .cellAt l n) s → laws .In n s
   pub in-covers : (l : ℕ) (n : K .tree .Node) (s : K .tree .Point) → laws .Good [] n → laws .In n s → Covers (K .cellAt l n) s
   pub fits : (l : ℕ) → l ≤ length (K .lengths) → laws .Good (take l (K .levels)) (K .root)
-  pub ten : length (K .lengths) ≡ 10
   pub place-test : testPlace K ≡ true
   pub length-test : testLength K ≡ true
   pub order-test : testOrder K ≡ true
@@ -84,7 +83,17 @@ pub record Sound (K : Codes) : Type 1 where
 -- the family as its callers see it
 abbrev pub familyOf : (K : Codes) → Sound K → Family
 familyOf K S =
-    record { Point = K .tree .Point; Cell = K .Cell; On = S .On; Covers = S .Covers; level = S .level; codeOf = codeIn K; cellOf = readIn K }
+    record {
+      levels = length (K .lengths);
+      Point = K .tree .Point;
+      Cell = K .Cell;
+      On = S .On;
+      Coded = λ l s. S .On s;
+      Covers = S .Covers;
+      level = S .level;
+      codeOf = codeIn K;
+      cellOf = readIn K;
+    }
 
 module _ (K : Codes) (S : Sound K) where
   abbrev len : ℕ → ℕ
@@ -250,26 +259,22 @@ module _ (K : Codes) (S : Sound K) where
       let s = held w (a .0) (a .1) in
       let f = found w (a .0) (a .1) in
       let v : S .level (a .0) ≡ f .l = found-level w (a .0) f in
-      let t : length (K .lengths) ≡ 10 = S .ten in
       record {
         level = S .level (a .0);
         low = subst (λ (x : ℕ). 1 ≤ x) (sym v) (f .low);
-        high = subst (λ (x : ℕ). x ≤ 10) (sym v) (subst (λ (x : ℕ). f .l ≤ x) t (f .high));
+        high = subst (λ (x : ℕ). x ≤ most) (sym v) (f .high);
         point = s .0;
-        on = s .1;
+        coded = s .1;
         same = sym (code-unique (s .0) (s .1) w (a .0) (a .1) (s .2));
       }
 
-  up-to-ten : (l : ℕ) → l ≤ 10 → l ≤ most
-  up-to-ten l h = subst (λ (x : ℕ). l ≤ x) (sym (S .ten)) h
-
   accepted-of : (w : List ℕ) → Given (familyOf K S) w → Accepted (readIn K) w
   accepted-of w a =
-      let c = code-cell (a .level) (a .point) (a .on) (a .low) (up-to-ten (a .level) (a .high)) in
+      let c = code-cell (a .level) (a .point) (a .coded) (a .low) (a .high) in
       (c .0, ap (readIn K) (sym (a .same)) ∙ c .1)
 
-  points : (w : List ℕ) (c : K .Cell) (s : K .tree .Point) → readIn K w ≡ accepted c → S .On s → S .Covers c s ↔ (codeIn K (S .level c) s ≡ w)
-  points w c s e o = (λ v. sym (code-unique s o w c e v), from)
+  points : (w : List ℕ) (c : K .Cell) (s : K .tree .Point) → readIn K w ≡ accepted c → S .On s → S .Covers c s ↔ (S .On s × (codeIn K (S .level c) s ≡ w))
+  points w c s e o = (λ v. (o, sym (code-unique s o w c e v)), λ p. from (p .1))
     where
       from : codeIn K (S .level c) s ≡ w → S .Covers c s
       from q =
@@ -284,7 +289,7 @@ module _ (K : Codes) (S : Sound K) where
   pub demands : Demands (familyOf K S)
   demands =
       record {
-        each-has-its-cell = λ l s o a b. code-cell l s o a (up-to-ten l b);
+        each-has-its-cell = code-cell;
         no-other = λ w c s o e v. code-unique s o w c e v;
         finer-only-adds = finer;
         share-exactly-when = shared;

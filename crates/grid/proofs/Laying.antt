@@ -17,7 +17,7 @@ use Rattle.grid.specs.declared.Written.the-variants as written-as
 use Rattle.grid.specs.declared.PlaneRead.{PlaneRead}
 use Rattle.grid.specs.declared.PlaneRead.the-variants as read-as
 use Rattle.grid.specs.Answers.{Answer, accepted, refused, planeRead}
-use Rattle.grid.specs.Laying.{Text, refuse, text, noRoom, laidIf, laid, LaidDown, written}
+use Rattle.grid.specs.Laying.{noRoom, laidIf, laid, LaidDown, written}
 use Rattle.grid.proofs.Cut.{clash}
 
 -- ---- two results that one contract allows are equal
@@ -35,17 +35,17 @@ plane-read-one (read-as.Refused r) (read-as.Found d) e = clash (cc)
 plane-read-one (read-as.Refused r) (read-as.Refused q) e = cc
 
 -- a writer's answer and line are determined
-pub laid-one : (t : Text) (line : List ℕ) (at : ℕ) (a b : Written) (k l : List ℕ) → (written a, k) ≡ laid t line at → (written b, l) ≡ laid t line at → (a ≡ b) × (k ≡ l)
+pub laid-one : (t : Answer (List ℕ)) (line : List ℕ) (at : ℕ) (a b : Written) (k l : List ℕ) → (written a, k) ≡ laid t line at → (written b, l) ≡ laid t line at → (a ≡ b) × (k ≡ l)
 laid-one t line at a b k l e f =
     let z : _≡_ {A = Answer ℕ × List ℕ} (written a, k) (written b, l) = e ∙ sym f in
     (written-one a b (ap (λ (x : Answer ℕ × List ℕ). x .0) z), ap (λ (x : Answer ℕ × List ℕ). x .1) z)
 
 -- ---- a refusal changes no byte
 
-pub refused-stays : (t : Text) (line : List ℕ) (at : ℕ) (r : Refusal) → laid t line at .0 ≡ refused r → laid t line at .1 ≡ line
+pub refused-stays : (t : Answer (List ℕ)) (line : List ℕ) (at : ℕ) (r : Refusal) → laid t line at .0 ≡ refused r → laid t line at .1 ≡ line
 unfolding laid
-refused-stays (refuse q) line at r e = refl
-refused-stays (text w) line at r e = go (leb (at + length w) (length line)) e
+refused-stays (refused q) line at r e = refl
+refused-stays (accepted w) line at r e = go (leb (at + length w) (length line)) e
   where
     go : (q : Bool) → laidIf q w line at .0 ≡ refused r → laidIf q w line at .1 ≡ line
     go true e = clash (cc)
@@ -53,7 +53,7 @@ refused-stays (text w) line at r e = go (leb (at + length w) (length line)) e
 
 -- ---- a success lays the whole text down, and the bytes before it and after it stay
 
-pub accepted-lays : (w line : List ℕ) (at n : ℕ) → laid (text w) line at .0 ≡ accepted n → LaidDown w line at n (laid (text w) line at .1)
+pub accepted-lays : (w line : List ℕ) (at n : ℕ) → laid (accepted w) line at .0 ≡ accepted n → LaidDown w line at n (laid (accepted w) line at .1)
 unfolding laid
 accepted-lays w line at n e = go (leb (at + length w) (length line)) refl e
   where
@@ -76,15 +76,15 @@ accepted-lays w line at n e = go (leb (at + length w) (length line)) refl e
 
 -- ---- the three ways to answer
 
-pub laid-refused : {t : Text} {r : Refusal} (line : List ℕ) (at : ℕ) → t ≡ refuse r → (written (written-as.Refused r), line) ≡ laid t line at
+pub laid-refused : {t : Answer (List ℕ)} {r : Refusal} (line : List ℕ) (at : ℕ) → t ≡ refused r → (written (written-as.Refused r), line) ≡ laid t line at
 unfolding laid
 laid-refused line at e = rw e refl
 
-pub laid-no-room : {t : Text} {w : List ℕ} (line : List ℕ) (at n : ℕ) → t ≡ text w → length w ≡ n → length line < at + n → (written (written-as.Refused noRoom), line) ≡ laid t line at
+pub laid-no-room : {t : Answer (List ℕ)} {w : List ℕ} (line : List ℕ) (at n : ℕ) → t ≡ accepted w → length w ≡ n → length line < at + n → (written (written-as.Refused noRoom), line) ≡ laid t line at
 unfolding laid
 laid-no-room line at n e l h = rw (e, l, lt-leb (at + n) (length line) h) refl
 
-pub laid-bytes : {t : Text} {w : List ℕ} (line : List ℕ) (at n : ℕ) → t ≡ text w → length w ≡ n → at + n ≤ length line → (written (written-as.Bytes n), take at line ++ w ++ drop (at + n) line) ≡ laid t line at
+pub laid-bytes : {t : Answer (List ℕ)} {w : List ℕ} (line : List ℕ) (at n : ℕ) → t ≡ accepted w → length w ≡ n → at + n ≤ length line → (written (written-as.Bytes n), take at line ++ w ++ drop (at + n) line) ≡ laid t line at
 unfolding laid
 laid-bytes {t} {w} line at n e l h =
     subst (λ (k : ℕ). (written (written-as.Bytes k), take at line ++ w ++ drop (at + k) line) ≡ laid t line at) l
@@ -108,22 +108,22 @@ part-stored old at w h =
     )
     (sym (append-assoc (take at old) w (drop (at + length w) old)))
 
-pub laid-lent : {t : Text} {w last : List ℕ} (line : List ℕ) (at n : ℕ) → t ≡ text w → length w ≡ n → at ≤ length line → n ≤ length line - at
+pub laid-lent : {t : Answer (List ℕ)} {w last : List ℕ} (line : List ℕ) (at n : ℕ) → t ≡ accepted w → length w ≡ n → at ≤ length line → n ≤ length line - at
     → last ≡ sets (take (length line - at) (drop at line)) 0 w → (written (written-as.Bytes n), putMid at (length line - at) line last) ≡ laid t line at
 laid-lent {t} {w} line at n e l ha hn s =
     let f : at + n ≤ length line = omega arith in
     rw (s, part-stored line at w (omega arith), l) (laid-bytes line at n e l f)
 
-pub laid-past : {t : Text} {w : List ℕ} (line : List ℕ) (at n : ℕ) → t ≡ text w → length w ≡ n → length line < at → (written (written-as.Refused noRoom), line) ≡ laid t line at
+pub laid-past : {t : Answer (List ℕ)} {w : List ℕ} (line : List ℕ) (at n : ℕ) → t ≡ accepted w → length w ≡ n → length line < at → (written (written-as.Refused noRoom), line) ≡ laid t line at
 laid-past line at n e l h = laid-no-room line at n e l (omega arith)
 
-pub laid-short : {t : Text} {w : List ℕ} (line : List ℕ) (at n : ℕ) → t ≡ text w → length w ≡ n → at ≤ length line → length line - at < n → (written (written-as.Refused noRoom), line) ≡ laid t line at
+pub laid-short : {t : Answer (List ℕ)} {w : List ℕ} (line : List ℕ) (at n : ℕ) → t ≡ accepted w → length w ≡ n → at ≤ length line → length line - at < n → (written (written-as.Refused noRoom), line) ≡ laid t line at
 laid-short line at n e l h k = laid-no-room line at n e l (omega arith)
 
 -- the same, where the refusal is known by an equation
-pub laid-past-by : {t : Text} {w : List ℕ} {r : Refusal} (line : List ℕ) (at n : ℕ) → r ≡ noRoom → t ≡ text w → length w ≡ n → length line < at → (written (written-as.Refused r), line) ≡ laid t line at
+pub laid-past-by : {t : Answer (List ℕ)} {w : List ℕ} {r : Refusal} (line : List ℕ) (at n : ℕ) → r ≡ noRoom → t ≡ accepted w → length w ≡ n → length line < at → (written (written-as.Refused r), line) ≡ laid t line at
 laid-past-by line at n q e l h = rw q (laid-past line at n e l h)
 
-pub laid-short-by : {t : Text} {w : List ℕ} {r : Refusal} (line : List ℕ) (at n : ℕ) → r ≡ noRoom → t ≡ text w → length w ≡ n → at ≤ length line → length line - at < n
+pub laid-short-by : {t : Answer (List ℕ)} {w : List ℕ} {r : Refusal} (line : List ℕ) (at n : ℕ) → r ≡ noRoom → t ≡ accepted w → length w ≡ n → at ≤ length line → length line - at < n
     → (written (written-as.Refused r), line) ≡ laid t line at
 laid-short-by line at n q e l h k = rw q (laid-short line at n e l h k)

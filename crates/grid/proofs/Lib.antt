@@ -9,6 +9,8 @@ pub mod Poles
 pub mod Halting
 pub mod PlaneLaws
 pub mod Lengths
+pub mod Arriving
+pub mod Levels
 pub mod Covering
 pub mod Families
 pub mod Refusing
@@ -17,4 +19,6 @@ pub mod Places
 pub mod BothLaws
 pub mod Theorems
 pub mod Ranges
+pub mod Answers
 pub mod Laying
+pub mod Storing

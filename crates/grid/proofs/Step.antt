@@ -322,7 +322,7 @@ module _ (n : ℕ) (p : Part) (b : Bool) (h : ℕ) (E : Exact true n p TURN h) w
       let u : _ < p .columns = col-below true n p (round h) E (eastward (s .longitude)) (fromPole (s .latitude)) (cap-inside s i) in
       omega (arith, u)
 
-  ring-here : (s : Square) → InCap b h s → (r : ℕ) → fromPole (s .latitude) / (p .height) ≡ r
+  pub ring-here : (s : Square) → InCap b h s → (r : ℕ) → fromPole (s .latitude) / (p .height) ≡ r
       → Allowed true p (ringColumn p r (eastward (s .longitude))) r × In (ringNode b p h (ringColumn p r (eastward (s .longitude))) r) s
   ring-here s i zero e =
       let v = sub-here true n p (round h) E (eastward (s .longitude)) (fromPole (s .latitude)) (cap-inside s i) in

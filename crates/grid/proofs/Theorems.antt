@@ -51,7 +51,6 @@ plane-sound =
       covers-in = λ l n s. covers-in l [] n s;
       in-covers = λ l n s. in-covers l [] n s;
       fits = splits-fit;
-      ten = refl;
       place-test = refl;
       length-test = refl;
       order-test = refl;
@@ -93,7 +92,6 @@ module _ (rs : List ℕ) (On : Cube → Type 0) (split-on : (s : Cube) → On s 
         covers-in = λ l n s g o c. (let d = split-on s .0 o in (covers-in l [] (n .0) (s .0) (g .0) (d .0) (c .plan), stack-in top (n .1) (s .1) small (g .1) (d .1) (c .high)));
         in-covers = λ l n s g i. record { plan = in-covers l [] (n .0) (s .0) (g .0) (i .0); high = stack-covers top (n .1) (s .1) small (g .1) (i .1) };
         fits = λ l h. (let a = below (fitsSpace rs) 11 l t (omega arith) in let b = and-true _ _ a in let c = and-true _ _ (b .1) in (b .0, c .0, c .1));
-        ten = refl;
         place-test = p;
         length-test = q;
         order-test = r;

@@ -1,5 +1,6 @@
 -- What a call answers: a result, or one refusal of document 01's table with its place and ordinal.
 -- Assumes nothing.
+use mathlib.Core.Bool.{Bool, true, false}
 use Prim.Native.Nat.{ℕ}
 use Rattle.grid.specs.declared.Refusal.{Refusal}
 use Rattle.grid.specs.declared.Cell.{Cell}
@@ -11,9 +12,23 @@ pub data Answer (C : Type 0) : Type 0 where
   accepted : C → Answer C
   refused : Refusal → Answer C
 
--- a refusal of the only or the first code: ordinal 1
+-- a refusal of the only or the first code or position: ordinal 1
 abbrev pub refusal : ℕ → ℕ → Refusal
 refusal n p = record { number = n; place = p; ordinal = 1 }
+
+-- the same refusal, about the code or position k of the call
+abbrev pub about : ℕ → Refusal → Refusal
+about k r = record { number = r .number; place = r .place; ordinal = k }
+
+-- the refusal where the test fails, else go on
+abbrev pub unless : {C : Type 0} → Bool → Refusal → Answer C → Answer C
+unless true r a = a
+unless false r a = refused r
+
+-- what follows from a result; a refusal stays
+abbrev pub andThen : {C D : Type 0} → Answer C → (C → Answer D) → Answer D
+andThen (accepted c) f = f c
+andThen (refused r) f = refused r
 
 -- 6: a code's length is none of its kind
 abbrev pub wrongLength : Refusal

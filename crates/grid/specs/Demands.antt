@@ -15,9 +15,11 @@ use Rattle.grid.specs.Space.{spaceCodeOf, spaceCellOf}
 
 -- a family of codes as its callers see it: points (unit squares or cubes), cells, and the two ways between
 pub record Family : Type 1 where
+  pub levels : ℕ  -- 1 to so many
   pub Point : Type 0
   pub Cell : Type 0
   pub On : Point → Type 0  -- the point lies in the ranges
+  pub Coded : ℕ → Point → Type 0  -- and has a code of that level
   pub Covers : Cell → Point → Type 0  -- the cell has the point
   pub level : Cell → ℕ
   pub codeOf : ℕ → Point → List ℕ
@@ -32,9 +34,9 @@ module _ (F : Family) where
   pub record Given (w : List ℕ) : Type 0 where
     pub level : ℕ
     pub low : 1 ≤ level
-    pub high : level ≤ 10
+    pub high : level ≤ F .levels
     pub point : F .Point
-    pub on : F .On point
+    pub coded : F .Coded level point
     pub same : F .codeOf level point ≡ w
 
   -- two cells share a point
@@ -45,8 +47,8 @@ module _ (F : Family) where
     pub second : F .Covers d point
 
   pub record Demands : Type 0 where
-    -- each point, at each level: the code we give for it is accepted, its cell has that level and holds the point
-    pub each-has-its-cell : (l : ℕ) (s : F .Point) → F .On s → 1 ≤ l → l ≤ 10
+    -- each point, at each level where it has a code: that code is accepted, its cell has that level and holds the point
+    pub each-has-its-cell : (l : ℕ) (s : F .Point) → F .Coded l s → 1 ≤ l → l ≤ F .levels
         → (c : F .Cell) × (F .cellOf (F .codeOf l s) ≡ accepted c) × (F .level c ≡ l) × F .Covers c s
     -- and no other accepted code's cell of that level does
     pub no-other : (w : List ℕ) (c : F .Cell) (s : F .Point) → F .On s → F .cellOf w ≡ accepted c → F .Covers c s
@@ -61,22 +63,34 @@ module _ (F : Family) where
         → (s : F .Point) → F .On s → F .Covers d s → F .Covers c s
     -- a code is accepted exactly when some point and level get it
     pub accepted-exactly-when : (w : List ℕ) → Accepted (F .cellOf) w ↔ Given w
-    -- its cell's points are exactly those that get it
+    -- its cell's points are exactly those that have a code of its level and get this one
     pub points-exactly : (w : List ℕ) (c : F .Cell) (s : F .Point) → F .cellOf w ≡ accepted c → F .On s
-        → F .Covers c s ↔ (F .codeOf (F .level c) s ≡ w)
+        → F .Covers c s ↔ (F .Coded (F .level c) s × (F .codeOf (F .level c) s ≡ w))
 
 -- plane codes over unit squares
 abbrev pub planeFamily : Family
 planeFamily =
-    record { Point = Square; Cell = Cell; On = OnGlobe; Covers = Covers; level = λ c. c .level; codeOf = codeOf; cellOf = cellOf }
+    record {
+      levels = 10;
+      Point = Square;
+      Cell = Cell;
+      On = OnGlobe;
+      Coded = λ l s. OnGlobe s;
+      Covers = Covers;
+      level = λ c. c .level;
+      codeOf = codeOf;
+      cellOf = cellOf;
+    }
 
 -- space codes over unit cubes
 abbrev pub spaceFamily : Family
 spaceFamily =
     record {
+      levels = 10;
       Point = Cube;
       Cell = SpaceCell;
       On = OnGrid;
+      Coded = λ l s. OnGrid s;
       Covers = CoversCube;
       level = λ c. c .cell .level;
       codeOf = spaceCodeOf;

@@ -11,16 +11,6 @@ use Rattle.grid.specs.declared.Written.{Written}
 use Rattle.grid.specs.declared.Written.the-variants.{Bytes, Refused}
 use Rattle.grid.specs.Answers.{Answer, accepted, refused, refusal}
 
--- what is to be written, with every refusal but 5 decided, in the paper's order
-pub data Text : Type 0 where
-  refuse : Refusal → Text
-  text : List ℕ → Text
-
--- refusal n where the test fails, else go on
-abbrev pub unless : Bool → ℕ → Text → Text
-unless true n t = t
-unless false n t = refuse (refusal n 0)
-
 -- 5: from the place given, the line lacks bytes for the whole code
 abbrev pub noRoom : Refusal
 noRoom = refusal 5 0
@@ -30,10 +20,11 @@ abbrev pub laidIf : Bool → List ℕ → List ℕ → ℕ → Answer ℕ × Lis
 laidIf true w line at = (accepted (length w), take at line ++ w ++ drop (at + length w) line)
 laidIf false w line at = (refused noRoom, line)
 
--- the answer, and the line afterwards: the text from the place on, the bytes before it and after it as they were; a refusal changes none
-unfoldable pub laid : Text → List ℕ → ℕ → Answer ℕ × List ℕ
-laid (refuse r) line at = (refused r, line)
-laid (text w) line at = laidIf (leb (at + length w) (length line)) w line at
+-- of a text, what is to be written with every refusal but 5 decided: the answer, and the line afterwards; the text stands from the place on,
+-- the bytes before it and after it are as they were, and a refusal changes none
+unfoldable pub laid : Answer (List ℕ) → List ℕ → ℕ → Answer ℕ × List ℕ
+laid (refused r) line at = (refused r, line)
+laid (accepted w) line at = laidIf (leb (at + length w) (length line)) w line at
 
 -- what a success leaves: n bytes written, for which there was room; from the place on they are the text, and the bytes before it and after it stay
 pub record LaidDown (w line : List ℕ) (at n : ℕ) (after : List ℕ) : Type 0 where

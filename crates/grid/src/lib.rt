@@ -3,11 +3,13 @@
 
 ghost use mathlib.Core.Path.{_≡_};
 ghost use Prim.Native.Nat.{_+_, _≤_, _<_};
+ghost use lib.Seq.{sets};
 ghost use Rattle.grid.specs.Units.{side, index, unit};
 ghost use Rattle.grid.specs.Plane.{letter, least};
 ghost use Rattle.grid.specs.Splits.{splitAt, polarCellAt};
 ghost use Rattle.grid.specs.Characters.{charOf, digitOf};
-ghost use Rattle.grid.specs.inner.Roads.{DigitBelow};
+ghost use Rattle.grid.specs.Answers.{refusal, wrongCharacter, about};
+ghost use Rattle.grid.specs.inner.Roads.{DigitBelow, atPlace, singleOf, levelChars, LevelFits};
 
 // One minute and one degree, in units of 1/2048 arc-second.
 pub const MINUTE: u32 = 60 * 2048;
@@ -79,6 +81,52 @@ pub enum Written {
 pub enum PlaneRead {
     Found(Cell),
     Refused(Refusal),
+}
+
+// ---- refusals: all of them are made here, and readers and writers pass them on
+
+// A refusal by its number: of the only or the first code or position, and with no place.
+pub fn refuse(number: u32) -> Refusal
+    ensures { λ r. ⌜ r ≡ refusal number 0 ⌝ }
+{
+    Refusal {
+        number: number,
+        place: 0,
+        ordinal: 1,
+    }
+}
+
+// 7: the character at a place is not allowed there.
+pub fn wrong_character(place: usize) -> Refusal
+    ensures { λ r. ⌜ r ≡ wrongCharacter place ⌝ }
+{
+    Refusal {
+        number: 7,
+        place: place,
+        ordinal: 1,
+    }
+}
+
+// The same refusal, about the code or position k of the call.
+pub fn about(k: u32, r: Refusal) -> Refusal
+    ensures { λ q. ⌜ q ≡ about k r ⌝ }
+{
+    Refusal {
+        number: r.number,
+        place: r.place,
+        ordinal: k,
+    }
+}
+
+// The same refusal, at the place that its character has in a longer code.
+pub fn at_place(place: usize, r: Refusal) -> Refusal
+    ensures { λ q. ⌜ q ≡ atPlace place r ⌝ }
+{
+    Refusal {
+        number: r.number,
+        place: place,
+        ordinal: r.ordinal,
+    }
 }
 
 // A position on the globe, by the side and the outward index of its longitude and of its latitude.
@@ -337,6 +385,43 @@ pub fn hemisphere(north: bool) -> u8
     ensures { λ r. ⌜ r ≡ charOf (letter north) ⌝ }
 {
     if north { b'N' } else { b'S' }
+}
+
+// ---- a level's characters
+
+// What a level adds to a code: how many columns the cell of the level before divides into, and the column and the row.
+pub struct Digits {
+    pub columns: u32,
+    pub column: u32,
+    pub row: u32,
+}
+
+// The one digit of a column and a row: 2·row + column, or row + column in a cap of three columns.
+fn single(d: Digits) -> u32
+    requires { ⌜ (d .column < 32) × (d .row < 32) ⌝ }
+    ensures { λ r. ⌜ r ≡ singleOf d ⌝ }
+{
+    if d.columns == 2 {
+        2 * d.row + d.column
+    } else {
+        d.row + d.column
+    }
+}
+
+// The characters of level k + 1, whose split is s, from a place of the line on: none where a code of the level ends before them.
+pub fn put_digits(level: u32, k: u32, s: Split, d: Digits, line: &mut [u8], at: usize)
+    requires { ⌜ LevelFits level k s d (now line) at ⌝ }
+    ensures { λ _. ⌜ now (line .exit) ≡ sets (now (line .entry)) at (levelChars level k s d) ⌝ }
+{
+    if level <= k {
+        return;
+    }
+    if s.characters == 2 {
+        line[at] = character(d.column);
+        line[at + 1] = character(d.row);
+    } else {
+        line[at] = character(single(d));
+    }
 }
 
 // ---- signed numbers, by their side of 0 and their outward index

@@ -9,7 +9,7 @@ use Rattle.grid.specs.declared.Cell.{Cell}
 use Rattle.grid.specs.declared.PlaneRead.{PlaneRead}
 use Rattle.grid.specs.declared.Written.{Written}
 use Rattle.grid.specs.Answers.{Answer, accepted, refused, planeRead}
-use Rattle.grid.specs.Laying.{Text, laid, written}
+use Rattle.grid.specs.Laying.{laid, written}
 use Rattle.grid.specs.Plane.{cellOf}
 use Rattle.grid.specs.Space.{spaceCellOf}
 use Rattle.grid.proofs.Cut.{clash}
@@ -35,7 +35,7 @@ use Rattle.hailgully.specs.Determined.{Determined}
 -- ---- the library's calls
 
 -- a writer that lays the text t down
-written-one : (t : Text) (line : List ℕ) (at : ℕ) → Determined (λ (r : Written × List ℕ). (written (r .0), r .1) ≡ laid t line at)
+written-one : (t : Answer (List ℕ)) (line : List ℕ) (at : ℕ) → Determined (λ (r : Written × List ℕ). (written (r .0), r .1) ≡ laid t line at)
 written-one t line at a b e f = let w = laid-one t line at (a .0) (b .0) (a .1) (b .1) e f in λ j. (w .0 j, w .1 j)
 
 pub plane-write : (level longitude latitude : ℤ) (line : List ℕ) (at : ℕ)
@@ -80,7 +80,7 @@ equal : {A : Type 0} {x : A} → Determined (λ (r : A). r ≡ x)
 equal a b e f = e ∙ sym f
 
 -- a writer that lays the text t down
-hg-written-one : (t : Text) (line : List ℕ) (at : ℕ)
+hg-written-one : (t : Answer (List ℕ)) (line : List ℕ) (at : ℕ)
     → Determined (λ (r : HgWritten × List ℕ). (r .0 ≡ writtenOf (laid t line at .0)) × (r .1 ≡ laid t line at .1))
 hg-written-one t line at a b e f = λ j. (equal (a .0) (b .0) (e .0) (f .0) j, equal (a .1) (b .1) (e .1) (f .1) j)
 

@@ -14,8 +14,7 @@ use borrow.Author.Tests.{lt-ltb}
 use Rattle.grid.specs.Units.{side, index}
 use Rattle.grid.specs.Tree.{code}
 use Rattle.grid.specs.Layers.{product, rise, sign, part, layers}
-use Rattle.grid.proofs.Cut.{clash}
-pub use Rattle.grid.proofs.Cut.{part-direct, begins-direct}
+use Rattle.grid.proofs.Cut.{clash, part-direct, begins-direct}
 use Rattle.grid.proofs.LayerLaws.{rise-below, all-read}
 use Rattle.layers.specs.Heights.{laterHeight}
 use Rattle.layers.specs.inner.Steps.{heightDigits, fairLater, Fair, thicknessAt, digitAt}
@@ -87,18 +86,14 @@ height-length (r ∷ rs) (suc l) z e h a b =
     ∙ omega (arith, length-take l (direct rs X), length-direct rs X, ten (r ∷ rs) e)
 
 -- level k + 1 adds its digit
-height-suc : (rs : List ℕ) (k : ℕ) (z : ℤ) → Fair rs → index z < product rs → 1 ≤ k → k < 10
+pub height-more : (rs : List ℕ) (k : ℕ) (z : ℤ) → Fair rs → index z < product rs → 1 ≤ k → k < 10
     → heightDigits rs (suc k) z ≡ heightDigits rs k z ++ (digitAt rs k (rise (product rs) z) ∷ [])
 unfolding digitAt thicknessAt
-height-suc rs zero z e h a b = absurd (omega arith)
-height-suc [] (suc k) z e h a b = clash (let t = e .test in cc)
-height-suc (r ∷ rs) (suc k) z e h a b =
+height-more rs zero z e h a b = absurd (omega arith)
+height-more [] (suc k) z e h a b = clash (let t = e .test in cc)
+height-more (r ∷ rs) (suc k) z e h a b =
     let X = rise (product (r ∷ rs)) z in
     let l : k < length rs = omega (arith, ten (r ∷ rs) e) in
     let t : take (suc k) (direct rs X) ≡ take k (direct rs X) ++ ((X / product (drop (suc k) rs) % getD rs k 0) ∷ []) =
     take-suc (direct rs X) k 0 (omega (arith, length-direct rs X)) ∙ ap (λ (x : ℕ). take k (direct rs X) ++ (x ∷ [])) (at-direct rs X k l) in
     rw (height-straight r rs (suc k) z e h, height-straight r rs k z e h, t, add-one (suc k)) refl
-
-pub height-more : (rs : List ℕ) (k : ℕ) (z : ℤ) → Fair rs → index z < product rs → 1 ≤ k → k < 10
-    → heightDigits rs (k + 1) z ≡ heightDigits rs k z ++ (digitAt rs k (rise (product rs) z) ∷ [])
-height-more rs k z e h a b = rw (add-one k) (height-suc rs k z e h a b)

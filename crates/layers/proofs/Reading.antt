@@ -1,7 +1,7 @@
 -- What reading each level makes of the layers read so far.
 -- Assumes nothing.
 use mathlib.Core.Path.{_≡_, refl, sym, _∙_, ap, subst}
-use mathlib.Core.Bool.{Bool, true, false, not}
+use mathlib.Core.Bool.{Bool, true, false}
 use mathlib.Core.List.{List, [], _∷_, map}
 use Prim.Native.Nat.{ℕ, zero, suc, _+_, _*_, _/_, _≤_, _<_}
 use native.Mathlib.Omega.{arith}
@@ -28,15 +28,6 @@ bad-read b = rw (b .none, b .place) refl
 
 bad-never : {A : Type 0} {p : ℕ} {h : Height} → BadAt p h → h .good ≡ true → A
 bad-never b g = clash (let n = b .none in cc)
-
--- what the test of a height's mark says
-pub marked : (b : Bool) → not b ≡ false → b ≡ true
-marked true e = refl
-marked false e = clash (cc)
-
-pub unmarked : (b : Bool) → not b ≡ true → b ≡ false
-unmarked true e = clash (cc)
-unmarked false e = refl
 
 -- ---- level 1
 

@@ -1,7 +1,7 @@
 -- A layer as a signed number: its side and rise, and the way back.
 -- Assumes nothing.
 use mathlib.Core.Path.{_≡_, refl, sym, _∙_, ap, subst}
-use mathlib.Core.Bool.{Bool, true, false, cond}
+use mathlib.Core.Bool.{Bool, true, false}
 use mathlib.Core.List.{List}
 use Prim.Native.Nat.{ℕ, _-_, _≤_, _<_}
 use native.Mathlib.Omega.{arith}
@@ -13,12 +13,13 @@ use mir.Val.{SFits, toZ, ofZ}
 use mir.Facts.{toZ-ofZ, toZ-pos}
 use native.Mathlib.Nat.{not-suc-le-zero}
 use borrow.Author.Tests.{ltb-true, lt-ltb, le-ltb}
+use Rattle.grid.specs.declared.Refusal.{Refusal}
 use Rattle.grid.specs.Units.{side, index}
-use Rattle.grid.specs.Answers.{Answer, accepted, refused}
+use Rattle.grid.specs.Answers.{accepted, refused, unless}
 use Rattle.grid.specs.Layers.{product, rise, part, floorOf}
 use Rattle.grid.proofs.Cut.{clash}
 use Rattle.grid.proofs.Signed.{mirrored-fits, mirrored-back}
-pub use Rattle.grid.proofs.LayerLaws.{rise-below}
+use Rattle.grid.proofs.LayerLaws.{rise-below}
 use Rattle.layers.specs.Heights.{outsideLayers, askedOf}
 use Rattle.layers.specs.inner.Steps.{layerOf, Fair, thicknessAt}
 use Rattle.layers.proofs.Radices.{product-fits, thick-top}
@@ -45,10 +46,7 @@ module _ (top : ℕ) where
 
 -- ---- a layer that is asked for
 
--- outside, and on either side
-asked-out : (rs : List ℕ) (z : ℤ) → product rs ≤ index z → refused outsideLayers ≡ askedOf rs z
-asked-out rs z h = rw (le-ltb (index z) (product rs) h) refl
-
+-- on either side
 asked-down : (rs : List ℕ) (z : ℤ) → index z < product rs → ltZ z (pos 0) ≡ true → accepted (false, product rs - 1 - index z) ≡ askedOf rs z
 asked-down rs (pos n) h s = absurd (not-suc-le-zero (ltb-true n 0 s))
 asked-down rs (negsuc n) h s = rw (lt-ltb n (product rs) h) refl
@@ -61,7 +59,7 @@ asked-up rs (negsuc n) h s = clash (cc)
 pub asked-at : (rs : List ℕ) (z : ℤ) {a : Bool} {n : ℕ} → askedOf rs z ≡ accepted (a, n) → (index z < product rs) × (n < product rs) × (layerOf (product rs) a n ≡ z)
 asked-at rs z {a} {n} e = go (ltb (index z) (product rs)) refl e
   where
-    go : (q : Bool) → ltb (index z) (product rs) ≡ q → cond {A = Answer (Bool × ℕ)} q (accepted (side z, rise (product rs) z)) (refused outsideLayers) ≡ accepted (a, n) → (index z < product rs) × (n < product rs) × (layerOf (product rs) a n ≡ z)
+    go : (q : Bool) → ltb (index z) (product rs) ≡ q → unless {C = Bool × ℕ} q outsideLayers (accepted (side z, rise (product rs) z)) ≡ accepted (a, n) → (index z < product rs) × (n < product rs) × (layerOf (product rs) a n ≡ z)
     go true h f =
         let i : index z < product rs = ltb-true _ _ h in
         let w : _≡_ {A = Bool × ℕ} (side z, rise (product rs) z) (a, n) = cc in
@@ -80,8 +78,8 @@ module _ (rs : List ℕ) {w : Width} {z : ℤ} (f : SFits w z) {t n : ℕ} (is :
   top : t ≡ product rs
   top = is ∙ thick-top rs
 
-  pub asked-outside : t ≤ n → refused outsideLayers ≡ askedOf rs z
-  asked-outside h = asked-out rs z (omega (arith, top, outward))
+  pub asked-outside : {r : Refusal} → r ≡ outsideLayers → t ≤ n → refused r ≡ askedOf rs z
+  asked-outside i h = rw (i, le-ltb (index z) (product rs) (omega (arith, top, outward))) refl
 
   pub asked-below : {x : ℕ} → x ≡ t - 1 - n → n < t → ltZ (toZ w (ofZ w z)) (pos 0) ≡ true → accepted (false, x) ≡ askedOf rs z
   asked-below i h s = rw (i, top, outward) (asked-down rs z (omega (arith, top, outward)) (rw (toZ-ofZ f) at s))

@@ -1,13 +1,11 @@
 -- What the stores of each level leave in the line, and what they come to.
 -- Assumes nothing.
 use mathlib.Core.Path.{_≡_, refl, _∙_, ap}
-use mathlib.Core.Bool.{Bool, cond}
+use mathlib.Core.Bool.{Bool}
 use mathlib.Core.List.{List, [], _∷_, _++_, map, map-append}
 use Prim.Native.Nat.{ℕ, suc, _+_, _/_, _%_, _≤_, _<_, min}
 use native.Mathlib.Omega.{arith}
 use native.Mathlib.Nat.{div-lt-iff-lt-mul, mod-lt}
-use native.Mathlib.Numerals.{add-one}
-use lib.Dec.{ltb}
 use lib.IntN.{ℤ}
 use lib.ListN.{length, getD, set, length-map}
 use lib.Seq.{sets, length-sets}
@@ -16,47 +14,46 @@ use Rattle.grid.specs.Characters.{charOf}
 use Rattle.grid.specs.Layers.{product, sign}
 use Rattle.grid.proofs.Cut.{clash}
 use Rattle.grid.proofs.Lists.{sets-next}
-use Rattle.layers.specs.inner.Steps.{heightDigits, layerOf, Fair, thicknessAt, digitAt, heightCharsAt, HeightWritable}
+use Rattle.layers.specs.inner.Steps.{heightDigits, layerOf, Fair, thicknessAt, firstNumber, digitAt, heightCharsAt, HeightWritable}
 use Rattle.layers.proofs.Radices.{first-radix, later-radix, thick-some, thick-step, thick-top}
 use Rattle.layers.proofs.Sides.{layer-side, layer-rise, layer-in}
 use Rattle.layers.proofs.Digits.{height-straight, height-length, height-more}
 
 -- ---- level 1
 
--- the first digit of a rise
-pub first-below : (rs : List ℕ) (n t : ℕ) → Fair rs → n < product rs → t ≡ thicknessAt rs 1 → n / t < 100
-first-below rs n t e h s =
-    let p = thick-some rs 1 e in
-    let m : n / thicknessAt rs 1 < getD rs 0 0 = div-lt-iff-lt-mul p .1 (rw (thick-step rs 0 e (omega arith), thick-top rs) h) in
-    let f : getD rs 0 0 ≤ 100 = first-radix rs e .few in
-    rw s (omega arith)
+-- two decimal digits make its number
+pub first-below : (rs : List ℕ) (n : ℕ) → Fair rs → n < product rs → firstNumber rs n < 100
+unfolding firstNumber
+first-below rs n e h =
+    let m : n / thicknessAt rs 1 < getD rs 0 0 = div-lt-iff-lt-mul (thick-some rs 1 e) .1 (rw (thick-step rs 0 e (omega arith), thick-top rs) h) in
+    omega (arith, first-radix rs e .few)
 
-pub first-stored : (rs : List ℕ) (a : Bool) (n t : ℕ) (l : List ℕ) {x y z : ℕ} → Fair rs → n < product rs → t ≡ thicknessAt rs 1
-    → x ≡ charOf (sign a) → y ≡ charOf (n / t / 10) → z ≡ charOf (n / t % 10)
+pub first-stored : (rs : List ℕ) (a : Bool) (n : ℕ) (l : List ℕ) {d x y z : ℕ} → Fair rs → n < product rs → d ≡ firstNumber rs n
+    → x ≡ charOf (sign a) → y ≡ charOf (d / 10) → z ≡ charOf (d % 10)
     → set (set (set l 0 x) 1 y) 2 z ≡ sets l 0 (map charOf (heightDigits rs 1 (layerOf (product rs) a n)))
-unfolding thicknessAt
-first-stored [] a n t l e h s p q r = clash (let t = e .test in cc)
-first-stored (k ∷ rs) a n t l e h s p q r =
+unfolding firstNumber thicknessAt
+first-stored [] a n l e h s p q r = clash (let t = e .test in cc)
+first-stored (k ∷ rs) a n l e h s p q r =
     let top = product (k ∷ rs) in
     rw (p, q, r, s, height-straight k rs 0 (layerOf top a n) e (layer-in top a n h), layer-side top a n, layer-rise top a n h) refl
 
 -- ---- a later level
 
 -- its digit is a code character's
-pub digit-below : (rs : List ℕ) (k n : ℕ) → Fair rs → 1 ≤ k → k < 10 → n % getD rs k 0 < 32
+pub digit-below : (rs : List ℕ) (k n : ℕ) → Fair rs → 1 ≤ k → k < 10 → digitAt rs k n < 32
+unfolding digitAt
 digit-below rs k n e a b =
     let f = later-radix rs k e a b in
-    let m : n % getD rs k 0 < getD rs k 0 = mod-lt n (f .more) in
-    omega (arith, f .few)
+    omega (arith, f .few, mod-lt (n / thicknessAt rs (k + 1)) (f .more))
 
 pub none-stored : (rs : List ℕ) (level k n : ℕ) (l : List ℕ) → level ≤ k → l ≡ sets l (k + 2) (heightCharsAt rs level k n)
 unfolding heightCharsAt
 none-stored rs level k n l h = rw (le-ltb k level h) refl
 
-pub one-stored : (rs : List ℕ) (level k n t : ℕ) (l : List ℕ) {x : ℕ} → k < level → t ≡ thicknessAt rs (k + 1)
-    → x ≡ charOf (n / t % getD rs k 0) → set l (k + 2) x ≡ sets l (k + 2) (heightCharsAt rs level k n)
-unfolding heightCharsAt digitAt
-one-stored rs level k n t l h s p = rw (p, s, lt-ltb k level h) refl
+pub one-stored : (rs : List ℕ) (level k n : ℕ) (l : List ℕ) {d x : ℕ} → k < level → d ≡ digitAt rs k n → x ≡ charOf d
+    → set l (k + 2) x ≡ sets l (k + 2) (heightCharsAt rs level k n)
+unfolding heightCharsAt
+one-stored rs level k n l h s p = rw (p, s, lt-ltb k level h) refl
 
 -- ---- a line in which the height characters are laid down, level by level
 
@@ -65,10 +62,11 @@ module _ (rs : List ℕ) (a : Bool) (n : ℕ) (e : Fair rs) (h : n < product rs)
   z = layerOf (product rs) a n
 
   added : (k : ℕ) → 1 ≤ k → k < 10
-      → sets (sets l 0 (map charOf (heightDigits rs (min level k) z))) (k + 2) (cond (ltb k level) (charOf (digitAt rs k n) ∷ []) []) ≡ sets l 0 (map charOf (heightDigits rs (min level (k + 1)) z))
+      → sets (sets l 0 (map charOf (heightDigits rs (min level k) z))) (k + 2) (heightCharsAt rs level k n) ≡ sets l 0 (map charOf (heightDigits rs (min level (k + 1)) z))
+  unfolding heightCharsAt
   added k b c =
       let i = layer-in (product rs) a n h in
-      let m : heightDigits rs (suc k) z ≡ heightDigits rs k z ++ (digitAt rs k n ∷ []) = rw (← add-one k, height-more rs k z e i b c, layer-rise (product rs) a n h) refl in
+      let m : heightDigits rs (suc k) z ≡ heightDigits rs k z ++ (digitAt rs k n ∷ []) = rw (height-more rs k z e i b c, layer-rise (product rs) a n h) refl in
       let w : length (map charOf (heightDigits rs k z)) ≡ k + 2 = omega (arith, length-map (heightDigits rs k z) charOf, height-length rs k z e i b (omega arith)) in
       sets-next (λ j. map charOf (heightDigits rs j z)) level k (k + 2) l _ refl (omega arith) (λ _. ap (map charOf) m ∙ map-append charOf (heightDigits rs k z) _) w
 
@@ -95,7 +93,6 @@ module _ {level n : ℕ} {rs : List ℕ} {a : Bool} {l₀ : List ℕ} where
       }
 
   pub laid-more : (k : ℕ) {l m : List ℕ} → 1 ≤ k → k < 10 → LaidTo k level rs a n l₀ l → m ≡ sets l (k + 2) (heightCharsAt rs level k n) → LaidTo (k + 1) level rs a n l₀ m
-  unfolding heightCharsAt
   laid-more k {l} {m} b c h f =
       record {
         radices-fair = h .radices-fair;

@@ -1,7 +1,7 @@
 -- A layer that is asked for, and the layers that height characters lead to, over any list of radices (document 01, "Layers and the space code").
 -- The answers of `layers` in document 01's numbers.
 -- Assumes nothing.
-use mathlib.Core.Bool.{Bool, cond}
+use mathlib.Core.Bool.{Bool}
 use mathlib.Core.List.{List, [], _∷_, map}
 use Prim.Native.Nat.{ℕ}
 use lib.Dec.{ltb}
@@ -10,12 +10,12 @@ use lib.ListN.{take}
 use Rattle.grid.specs.declared.Refusal.{Refusal}
 use Rattle.grid.specs.Units.{side, index}
 use Rattle.grid.specs.Tree.{Read, ok, bad, follow}
-use Rattle.grid.specs.Answers.{Answer, accepted, refused, refusal, wrongCharacter}
+use Rattle.grid.specs.Answers.{Answer, accepted, refused, refusal, unless, wrongCharacter}
 use Rattle.grid.specs.Layers.{product, rise, Stack, all, part, Radix, layers}
 use Rattle.layers.specs.declared.AskedLayer.{AskedLayer}
-use Rattle.layers.specs.declared.AskedLayer.the-variants.{At, Outside}
+use Rattle.layers.specs.declared.AskedLayer.the-variants as layer-as
 use Rattle.layers.specs.declared.LayersRead.{LayersRead}
-use Rattle.layers.specs.declared.LayersRead.the-variants.{Found, Bad}
+use Rattle.layers.specs.declared.LayersRead.the-variants as layers-as
 
 -- ---- a layer that is asked for
 
@@ -25,12 +25,12 @@ outsideLayers = refusal 4 0
 
 -- a layer's side of the ground and its rise, or 4
 abbrev pub askedOf : List ℕ → ℤ → Answer (Bool × ℕ)
-askedOf rs z = cond (ltb (index z) (product rs)) (accepted (side z, rise (product rs) z)) (refused outsideLayers)
+askedOf rs z = unless (ltb (index z) (product rs)) outsideLayers (accepted (side z, rise (product rs) z))
 
--- the answer in the paper's numbers: the side and the rise, or 4
+-- the answer in the paper's numbers: the side and the rise, or the refusal
 abbrev pub layerAsked : AskedLayer → Answer (Bool × ℕ)
-layerAsked (At above n) = accepted (above, n)
-layerAsked Outside = refused outsideLayers
+layerAsked (layer-as.At above n) = accepted (above, n)
+layerAsked (layer-as.Refused r) = refused r
 
 -- ---- height characters that are read
 
@@ -56,7 +56,7 @@ stackAnswer (bad p) = refused (wrongCharacter p)
 abbrev pub heightAnswer : List ℕ → ℕ → List ℕ → Answer Stack
 heightAnswer rs l ds = stackAnswer (heightRead rs l ds)
 
--- the answer in the paper's numbers: so many layers from a lowest one on, or 7 with the place
+-- the answer in the paper's numbers: so many layers from a lowest one on, or the refusal
 abbrev pub layersAnswer : LayersRead → Answer Stack
-layersAnswer (Found above low thick) = accepted (part above low thick)
-layersAnswer (Bad p) = refused (wrongCharacter p)
+layersAnswer (layers-as.Found above low thick) = accepted (part above low thick)
+layersAnswer (layers-as.Refused r) = refused r

@@ -10,22 +10,23 @@ ghost use lib.Seq.{sets};
 ghost use Rattle.grid.specs.Characters.{charOf, digitOf};
 ghost use Rattle.grid.specs.Layers.{radices, product, rise, sign, part, floorOf};
 ghost use Rattle.layers.specs.Heights.{askedOf, layerAsked, stackAnswer, heightAnswer, layersAnswer};
-ghost use Rattle.layers.specs.inner.Steps.{Fair, thicknessAt, layerOf, heightDigits, heightCharsAt, HeightWritable, heightOf, Readable, BadAt, HeightFirst, Upto};
+ghost use Rattle.layers.specs.inner.Steps.{Fair, thicknessAt, layerOf, heightDigits, firstNumber, digitAt, heightCharsAt, HeightWritable, heightOf, Readable, BadAt, HeightFirst, Upto};
+use grid::Refusal;
 
 // Document 01's radices, from the coarsest.
 const RADICES: [u32; 10] = [64, 8, 2, 15, 15, 2, 8, 8, 8, 8];
 
-// A layer that is asked for: whether it lies above ground, and its rise; or outside its range, which is refusal 4.
+// A layer that is asked for: whether it lies above ground, and its rise; or refusal 4.
 pub enum AskedLayer {
     At(bool, u32),
-    Outside,
+    Refused(Refusal),
 }
 
 // What height characters lead to: layers above ground or below, the lowest one's rise, and how many they are;
-// or the place of the first character that is not allowed, which is refusal 7.
+// or refusal 7, with the place of the first character that is not allowed.
 pub enum LayersRead {
     Found(bool, u32, u32),
-    Bad(usize),
+    Refused(Refusal),
 }
 
 // The reading place, and the layers read so far.
@@ -70,7 +71,7 @@ fn ask_over(rs: [u32; 10], layer: i64) -> AskedLayer
     let top = thickness(rs, 0);
     let n = grid::outward(layer);
     if top as u64 <= n {
-        return AskedLayer::Outside;
+        return AskedLayer::Refused(grid::refuse(4));
     }
     if layer < 0 {
         AskedLayer::At(false, below_ground(top, n as u32))
@@ -95,12 +96,28 @@ fn sign_of(above: bool) -> u8
     if above { b'0' } else { b'1' }
 }
 
+// The number of level 1, which its two decimal digits make: which of the parts of a side holds the rise.
+fn first_number(rs: [u32; 10], rise: u32) -> u32
+    requires { ⌜ Fair rs ⌝ }
+    ensures { λ r. ⌜ r ≡ firstNumber rs rise ⌝ }
+{
+    rise / thickness(rs, 1)
+}
+
+// The digit of level k + 1, one after the first: which of the parts of the level before holds the rise.
+fn digit_at(rs: [u32; 10], k: usize, rise: u32) -> u32
+    requires { ⌜ Fair rs × (1 ≤ k) × (k < 10) ⌝ }
+    ensures { λ r. ⌜ r ≡ digitAt rs k rise ⌝ }
+{
+    rise / thickness(rs, k + 1) % rs[k]
+}
+
 // Level 1: the sign, then two decimal digits.
 fn put_first(rs: [u32; 10], above: bool, rise: u32, line: &mut [u8])
     requires { ⌜ Fair rs × (rise < product rs) × (3 ≤ length (now line)) ⌝ }
     ensures { λ _. ⌜ now (line .exit) ≡ sets (now (line .entry)) 0 (map charOf (heightDigits rs 1 (layerOf (product rs) above rise))) ⌝ }
 {
-    let d = rise / thickness(rs, 1);
+    let d = first_number(rs, rise);
     line[0] = sign_of(above);
     line[1] = grid::character(d / 10);
     line[2] = grid::character(d % 10);
@@ -114,8 +131,7 @@ fn put_digit(rs: [u32; 10], level: u32, k: usize, rise: u32, line: &mut [u8])
     if level as usize <= k {
         return;
     }
-    let d = rise / thickness(rs, k + 1) % rs[k];
-    line[k + 2] = grid::character(d);
+    line[k + 2] = grid::character(digit_at(rs, k, rise));
 }
 
 // All the levels, over any radices.
@@ -232,7 +248,7 @@ impl Height {
         if self.good {
             LayersRead::Found(self.above, self.low, self.thick)
         } else {
-            LayersRead::Bad(self.place)
+            LayersRead::Refused(grid::wrong_character(self.place))
         }
     }
 }

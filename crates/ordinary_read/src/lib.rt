@@ -26,7 +26,6 @@ ghost use Rattle.ordinary_read.specs.inner.Reading.{
 };
 use grid::Cell;
 use grid::PlaneRead;
-use grid::Refusal;
 use grid::Split;
 
 // The reading place, and the cell read so far: its quarter, the outward indices where it begins, and its size.
@@ -140,11 +139,7 @@ impl Cursor {
         ensures { λ r. ⌜ planeRead r ≡ ordinaryAnswer level (ordinaryRead self) ⌝ }
     {
         if !self.good {
-            return PlaneRead::Refused(Refusal {
-                number: 7,
-                place: self.place,
-                ordinal: 1,
-            });
+            return PlaneRead::Refused(grid::wrong_character(self.place));
         }
         PlaneRead::Found(Cell {
             level: level,

@@ -1,69 +1,30 @@
--- The digits of an ordinary place straight from its outward indices: the tree's digits, which go down cell by cell, are those.
+-- The cells of an ordinary place and its digits straight from its outward indices: the tree, which goes down cell by cell, comes to those.
 -- Assumes nothing.
 use mathlib.Core.Path.{_≡_, refl, sym, _∙_, ap, subst}
-use mathlib.Core.Bool.{Bool, true}
-use mathlib.Core.List.{List, [], _∷_, _++_, append-assoc}
+use mathlib.Core.Bool.{Bool, false}
+use mathlib.Core.List.{List, [], _∷_}
 use mathlib.Core.Logic.{_⊎_, inl, inr}
-use Prim.Native.Nat.{ℕ, _+_, _-_, _*_, _/_, _%_, _<_}
+use Prim.Native.Nat.{ℕ, zero, suc, _+_, _-_, _*_, _/_, _%_, _≤_, _<_}
 use native.Mathlib.Omega.{arith}
 use lib.IntN.{ℤ, pos, negsuc}
+use lib.ListN.{drop}
 use borrow.Author.Tests.{lt-ltb, le-leb, lt-leb}
 use Rattle.grid.specs.declared.Split.{Split}
 use Rattle.grid.specs.Units.{HALF, POLAR, side, index, Square, OnGlobe}
-use Rattle.grid.specs.Tree.{ok, code}
-use Rattle.grid.specs.Splits.{first}
-use Rattle.grid.specs.Plane.{ordinary, Box, Node, globe, cell, plainPart, letter, zone, globeDigits, sheet, globeChild, cellDigits, plane}
+use Rattle.grid.specs.Tree.{ok}
+use Rattle.grid.specs.Splits.{first, splits, splitAt}
+use Rattle.grid.specs.inner.Roads.{digitsIn}
+use Rattle.grid.specs.Plane.{Frame, ordinary, Box, Node, cell, plainPart, letter, zone, globeDigits, sheet, globeChild, digitsOf, childOf}
 use Rattle.grid.proofs.Cut.{part-direct, part-begins}
-use Rattle.grid.proofs.Step.{In, InCell, boxOf, cell-read, cell-into}
+use Rattle.grid.proofs.Step.{In, InCell, Exact, boxOf, cell-read}
 use Rattle.grid.proofs.Globe.{Sheet, Pole, letter-north, globe-cases, globe-here}
-use Rattle.grid.proofs.PlaneLaws.{fitsGlobe, Good, GoodCell, cell-exact, good}
-use Rattle.ordinary_write.specs.inner.Writing.{columnIn, rowIn, ordinaryDigits}
+use Rattle.grid.proofs.PlaneLaws.{Good, GoodCell, cell-exact}
+use Rattle.grid.proofs.Arriving.{nodeAt, node-one, node-suc, node-good}
+use Rattle.ordinary_write.specs.inner.Writing.{ordinaryDigits}
 
--- ---- the two axes, level by level
-
--- the box of width w and height h that holds a place
-abbrev pub boxAt : ℕ → ℕ → ℕ → ℕ → Box
+-- the box of width w and height h that holds the indices X and Y
+abbrev boxAt : ℕ → ℕ → ℕ → ℕ → Box
 boxAt w h X Y = record { x = X / w * w; w = w; y = Y / h * h; h = h }
-
--- the digits of the levels ts
-unfoldable pub direct : List Split → ℕ → ℕ → List ℕ
-direct [] X Y = []
-direct (t ∷ ts) X Y = ordinaryDigits t X Y ++ direct ts X Y
-
-pub direct-more : (ts us : List Split) (X Y : ℕ) → direct (ts ++ us) X Y ≡ direct ts X Y ++ direct us X Y
-unfolding direct
-direct-more [] us X Y = refl
-direct-more (t ∷ ts) us X Y = ap (λ z. ordinaryDigits t X Y ++ z) (direct-more ts us X Y) ∙ sym (append-assoc (ordinaryDigits t X Y) _ _)
-
-module _ (n e : Bool) (s : Square) where
-  abbrev X : ℕ
-  X = index (s .longitude)
-
-  abbrev Y : ℕ
-  Y = index (s .latitude)
-
-  pub code-direct : (ts : List Split) (w h : ℕ) → GoodCell ts (ordinary n e) (boxAt w h X Y) → InCell (ordinary n e) (boxAt w h X Y) s
-      → code plane ts (cell (ordinary n e) (boxAt w h X Y)) s ≡ direct ts X Y
-  unfolding code direct
-  code-direct [] w h g i = refl
-  code-direct (t ∷ ts) w h g i =
-      let f = ordinary n e in
-      let b = boxAt w h X Y in
-      let p = plainPart t in
-      let E = cell-exact t ts f b g in
-      let c : (X - X / w * w) / t .width ≡ columnIn t X = subst (λ (z : ℕ). (X - X / z * z) / t .width ≡ columnIn t X) (E .wide) (part-direct X (t .columns) (t .width) (E .some-c) (E .some-w)) in
-      let r : (Y - Y / h * h) / t .height ≡ rowIn t Y = subst (λ (z : ℕ). (Y - Y / z * z) / t .height ≡ rowIn t Y) (E .high) (part-direct Y (t .rows) (t .height) (E .some-r) (E .some-h)) in
-      let cx : X / w * w + (X - X / w * w) / t .width * t .width ≡ X / t .width * t .width =
-      subst (λ (z : ℕ). X / z * z + (X - X / z * z) / t .width * t .width ≡ X / t .width * t .width) (E .wide) (part-begins X (t .columns) (t .width) (E .some-c) (E .some-w)) in
-      let ry : Y / h * h + (Y - Y / h * h) / t .height * t .height ≡ Y / t .height * t .height =
-      subst (λ (z : ℕ). Y / z * z + (Y - Y / z * z) / t .height * t .height ≡ Y / t .height * t .height) (E .high) (part-begins Y (t .rows) (t .height) (E .some-r) (E .some-h)) in
-      let m = cell-read (t .characters) p f b E s i in
-      let q : boxOf (t .characters) p f b E s ≡ boxAt (t .width) (t .height) X Y =
-      λ j. record { x = cx j; w = t .width; y = ry j; h = t .height } in
-      let g2 : GoodCell ts f (boxAt (t .width) (t .height) X Y) =
-      subst (λ (z : Box). GoodCell ts f z) q (good t ts (cell f b) (cellDigits p f b s) (cell f (boxOf (t .characters) p f b E s)) g m) in
-      let i2 : InCell f (boxAt (t .width) (t .height) X Y) s = subst (λ (z : Box). InCell f z s) q (cell-into (t .characters) p f b E s i) in
-      rw (m, q, c, r) (ap (λ z. ordinaryDigits t X Y ++ z) (code-direct ts (t .width) (t .height) g2 i2))
 
 -- ---- level 1
 
@@ -87,17 +48,64 @@ sheet-node n z r m e = go (globe-cases (letter n) (z / 10) (z % 10) (10 + r) m e
         rw (letter-north n, a, b) at (q .node)
     go (inr q) = let d : 10 + r ≡ 0 = q .d0 in absurd (omega arith)
 
--- the digits of an ordinary square: those of level 1, and the others straight from its indices
-pub code-plain : (ts : List Split) (s : Square) → OnGlobe s → index (s .latitude) < POLAR → fitsGlobe (first ∷ ts) ≡ true
-    → code plane (first ∷ ts) globe s ≡ globeDigits s ++ direct ts (index (s .longitude)) (index (s .latitude))
-unfolding code
-code-plain ts s o h g =
-    let n = side (s .latitude) in
-    let e = side (s .longitude) in
-    let k = globe-here s o in
-    let d = rw (lt-ltb (index (s .latitude)) POLAR h) at (k .1) in
-    let q : k .0 ≡ cell (ordinary n e) (boxAt (first .width) (first .height) (index (s .longitude)) (index (s .latitude))) =
-    sym (sheet-node n (zone (s .longitude)) (index (s .latitude) / first .height) (k .0) d) ∙ sheet-box n (s .longitude) (index (s .latitude)) (o .longitude-in) in
-    let g2 = subst (λ (x : Node). Good ts x) q (good first ts globe (globeDigits s) (k .0) g (k .1)) in
-    let i2 = subst (λ (x : Node). In x s) q (k .2) in
-    rw (k .1, q) (ap (λ z. globeDigits s ++ z) (code-direct n e s ts (first .width) (first .height) g2 i2))
+module _ (s : Square) (o : OnGlobe s) (h : index (s .latitude) < POLAR) where
+  abbrev f : Frame
+  f = ordinary (side (s .latitude)) (side (s .longitude))
+
+  abbrev X : ℕ
+  X = index (s .longitude)
+
+  abbrev Y : ℕ
+  Y = index (s .latitude)
+
+  first-child : globeChild (globeDigits s) ≡ ok (cell f (boxAt (first .width) (first .height) X Y))
+  first-child =
+      let k = globe-here s o in
+      let d = rw (lt-ltb Y POLAR h) at (k .1) in
+      k .1 ∙ ap ok (sym (sheet-node (side (s .latitude)) (zone (s .longitude)) (Y / first .height) (k .0) d) ∙ sheet-box (side (s .latitude)) (s .longitude) Y (o .longitude-in))
+
+  -- ---- a level after the first
+
+  -- what one level does in the cell of size w by v that has the place
+  module _ (t : Split) (ts : List Split) (w v : ℕ) (g : GoodCell (t ∷ ts) f (boxAt w v X Y)) (i : InCell f (boxAt w v X Y) s) where
+    E : Exact false (t .characters) (plainPart t) w v
+    E = cell-exact t ts f (boxAt w v X Y) g
+
+    cell-digits : digitsOf t (cell f (boxAt w v X Y)) s ≡ digitsIn t (ordinaryDigits t X Y)
+    cell-digits =
+        rw (
+          ← E .wide,
+          ← E .high,
+          part-direct X (t .columns) (t .width) (E .some-c) (E .some-w),
+          part-direct Y (t .rows) (t .height) (E .some-r) (E .some-h),
+        ) refl
+
+    cell-child : childOf t (cell f (boxAt w v X Y)) (digitsOf t (cell f (boxAt w v X Y)) s) ≡ ok (cell f (boxAt (t .width) (t .height) X Y))
+    cell-child =
+        let q : boxOf (t .characters) (plainPart t) f (boxAt w v X Y) E s ≡ boxAt (t .width) (t .height) X Y =
+        rw (
+          ← E .wide,
+          ← E .high,
+          part-begins X (t .columns) (t .width) (E .some-c) (E .some-w),
+          part-begins Y (t .rows) (t .height) (E .some-r) (E .some-h),
+        ) refl in
+        cell-read (t .characters) (plainPart t) f (boxAt w v X Y) E s i ∙ ap (λ (b : Box). ok (cell f b)) q
+
+  module _ (k : ℕ) (b : k < 10) (w v : ℕ) (e : nodeAt k s ≡ cell f (boxAt w v X Y)) where
+    at-cell : InCell f (boxAt w v X Y) s × GoodCell (splitAt k ∷ drop (suc k) splits) f (boxAt w v X Y)
+    at-cell = subst (λ (n : Node). In n s × Good (splitAt k ∷ drop (suc k) splits) n) e (node-good k s b o)
+
+    digits-here : digitsOf (splitAt k) (nodeAt k s) s ≡ digitsIn (splitAt k) (ordinaryDigits (splitAt k) X Y)
+    digits-here = rw e (cell-digits (splitAt k) (drop (suc k) splits) w v (at-cell .1) (at-cell .0))
+
+    node-next : nodeAt (suc k) s ≡ cell f (boxAt (splitAt k .width) (splitAt k .height) X Y)
+    node-next = node-suc k s b (rw e (cell-child (splitAt k) (drop (suc k) splits) w v (at-cell .1) (at-cell .0)))
+
+  -- the cell of level j + 1 is as large as the table says
+  node-is : (j : ℕ) → j < 10 → nodeAt (suc j) s ≡ cell f (boxAt (splitAt j .width) (splitAt j .height) X Y)
+  node-is zero b = node-one s first-child
+  node-is (suc j) b = node-next (suc j) b _ _ (node-is j (omega arith))
+
+  pub digits-are : (k : ℕ) → 1 ≤ k → k < 10 → digitsOf (splitAt k) (nodeAt k s) s ≡ digitsIn (splitAt k) (ordinaryDigits (splitAt k) X Y)
+  digits-are zero a b = absurd (omega arith)
+  digits-are (suc j) a b = digits-here (suc j) b _ _ (node-is j (omega arith))

@@ -1,3 +1,3 @@
 pub mod Direct
-pub mod Codes
 pub mod Stores
+pub mod Codes

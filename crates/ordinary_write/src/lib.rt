@@ -6,10 +6,10 @@ ghost use Prim.Native.Nat.{_≤_, _<_};
 ghost use lib.ListN.{length};
 ghost use lib.Seq.{sets};
 ghost use Rattle.grid.specs.Units.{HALF, POLAR, unit};
-ghost use Rattle.grid.specs.Splits.{splitAt};
-ghost use Rattle.grid.specs.inner.Roads.{squareOf, placeOf};
+ghost use Rattle.grid.specs.inner.Roads.{squareOf, placeOf, levelChars};
 ghost use Rattle.grid.specs.Plane.{zone, codeOf};
-ghost use Rattle.ordinary_write.specs.inner.Writing.{OrdinaryWritable, Later, ordinaryChars};
+ghost use Rattle.ordinary_write.specs.inner.Writing.{OrdinaryWritable, ordinaryDigits, OrdinaryDivides, OrdinaryReady};
+use grid::Digits;
 use grid::Place;
 use grid::Split;
 
@@ -39,23 +39,24 @@ fn put_first(p: Place, line: &mut [u8])
     line[3] = (65 + p.y / s.height) as u8;
 }
 
+// What the level of a split adds: the column and the row of a place in its cell of the level before.
+fn digits(s: Split, p: Place) -> Digits
+    requires { ⌜ OrdinaryDivides s ⌝ }
+    ensures { λ r. ⌜ r ≡ ordinaryDigits s (p .x) (p .y) ⌝ }
+{
+    Digits {
+        columns: s.columns,
+        column: p.x / s.width % s.columns,
+        row: p.y / s.height % s.rows,
+    }
+}
+
 // Level k + 1, a later one, over its split s: nothing where the code ends before it.
 fn put_level(level: u32, k: u32, s: Split, p: Place, line: &mut [u8])
-    requires { ⌜ OrdinaryWritable level p (now line) × Later k s ⌝ }
-    ensures { λ _. ⌜ now (line .exit) ≡ sets (now (line .entry)) (placeOf (splitAt k)) (ordinaryChars level k p) ⌝ }
+    requires { ⌜ OrdinaryReady level k s p (now line) ⌝ }
+    ensures { λ _. ⌜ now (line .exit) ≡ sets (now (line .entry)) (placeOf s) (levelChars level k s (ordinaryDigits s (p .x) (p .y))) ⌝ }
 {
-    if level <= k {
-        return;
-    }
-    let at = s.length - s.characters;
-    let c = p.x / s.width % s.columns;
-    let r = p.y / s.height % s.rows;
-    if s.characters == 1 {
-        line[at] = grid::character(2 * r + c);
-    } else {
-        line[at] = grid::character(c);
-        line[at + 1] = grid::character(r);
-    }
+    grid::put_digits(level, k, s, digits(s, p), line, s.length - s.characters);
 }
 
 // The code of a level from the line's beginning on; the bytes after it stay.

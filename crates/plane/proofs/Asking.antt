@@ -1,9 +1,11 @@
--- What a position writer is asked for: refusals 1, 2 and 3 in that order. Assumes nothing.
-use mathlib.Core.Path.{_≡_, refl, sym, _∙_, ap, subst}
-use mathlib.Core.Bool.{Bool, true, false, cond}
+-- What a position writer is asked for: refusals 1, 2 and 3, each exactly when, and what is known of a level and a place that were accepted.
+-- Assumes nothing.
+use mathlib.Core.Path.{_≡_, refl, sym, _∙_, ap}
+use mathlib.Core.Bool.{Bool, true, false, _&&_}
+use mathlib.Core.List.{List}
 use Prim.Native.Nat.{ℕ, _≤_, _<_}
 use native.Mathlib.Omega.{arith}
-use lib.Dec.{leb}
+use lib.Dec.{ltb, leb}
 use lib.IntN.{ℤ, pos, negsuc}
 use lib.Signed.{ltZ}
 use borrow.Author.Tests.{ltb-true, ltb-false, leb-true, le-leb, lt-leb, lt-ltb, le-ltb}
@@ -11,38 +13,52 @@ use Rattle.grid.specs.declared.Place.{Place}
 use Rattle.grid.specs.declared.Refusal.{Refusal}
 use Rattle.grid.specs.Units.{HALF, QUARTER, side, index, unit, Square}
 use Rattle.grid.specs.inner.Roads.{squareOf}
-use Rattle.grid.specs.Answers.{refusal}
-use Rattle.grid.specs.Laying.{Text, refuse, text}
-use Rattle.grid.specs.Plane.{codeOf}
-use Rattle.grid.proofs.Cut.{clash}
-use Rattle.plane.specs.Text.{levelNumber, planeText}
-use Rattle.plane.specs.inner.Asking.{askedText, Placed, Fitting}
-use Rattle.plane.specs.declared.Asked.{Asked}
-use Rattle.plane.specs.declared.Asked.the-variants.{At, Refused}
+use Rattle.grid.specs.Answers.{Answer, accepted, refused, refusal, about, unless}
+use Rattle.grid.proofs.Answers.{then-accepted, then-refused}
+use Rattle.grid.proofs.Cut.{clash, and-true}
+use Rattle.grid.proofs.PlaneLaws.{index-unit}
+use Rattle.plane.specs.declared.AskedLevel.{AskedLevel}
+use Rattle.plane.specs.declared.AskedLevel.the-variants as level
+use Rattle.plane.specs.declared.AskedPosition.{AskedPosition}
+use Rattle.plane.specs.declared.AskedPosition.the-variants as position
+use Rattle.plane.specs.Text.{levelIn, squareIn, planeTextAt, planeText}
+use Rattle.plane.specs.inner.Asking.{levelAsked, positionAsked}
 
 -- ---- the level
 
-pub level-low : (z : ℤ) → ltZ z (pos 1) ≡ true → 0 ≡ levelNumber z
-level-low (pos k) t = let h : k < 1 = ltb-true k 1 t in rw (le-leb k 10 (omega (arith, h))) (omega (arith, h))
+pub level-low : (z : ℤ) → ltZ z (pos 1) ≡ true → refused (refusal 1 0) ≡ levelIn z
+unfolding levelIn
+level-low (pos k) t = let h : k < 1 = ltb-true k 1 t in rw (le-ltb 0 k (omega (arith, h))) refl
 level-low (negsuc k) t = refl
 
-pub level-high : (z : ℤ) → ltZ (pos 10) z ≡ true → 0 ≡ levelNumber z
-level-high (pos k) t = rw (lt-leb k 10 (ltb-true 10 k t)) refl
+pub level-high : (z : ℤ) → ltZ (pos 10) z ≡ true → refused (refusal 1 0) ≡ levelIn z
+unfolding levelIn
+level-high (pos k) t = let h : 10 < k = ltb-true 10 k t in rw (lt-ltb 0 k (omega (arith, h)), lt-leb k 10 h) refl
 level-high (negsuc k) t = refl
 
-pub level-within : (z : ℤ) → ltZ z (pos 1) ≡ false → ltZ (pos 10) z ≡ false → z ≡ pos (levelNumber z)
-level-within (pos k) t u = rw (le-leb k 10 (ltb-false 10 k u)) refl
+-- a level that is neither below 1 nor above 10
+pub level-within : (z : ℤ) → ltZ z (pos 1) ≡ false → ltZ (pos 10) z ≡ false → (l : ℕ) × (z ≡ pos l) × (l ≤ 10) × (accepted l ≡ levelIn z)
+unfolding levelIn
+level-within (pos k) t u =
+    let a : 1 ≤ k = ltb-false k 1 t in
+    let b : k ≤ 10 = ltb-false 10 k u in
+    (k, refl, b, rw (lt-ltb 0 k (omega (arith, a)), le-leb k 10 b) refl)
 level-within (negsuc k) t u = clash (cc)
 
-pub level-most : (z : ℤ) → levelNumber z ≤ 10
-level-most (pos k) = go (leb k 10) refl
+-- a level that was accepted
+pub level-known : (z : ℤ) {l : ℕ} → levelIn z ≡ accepted l → (1 ≤ l) × (l ≤ 10)
+unfolding levelIn
+level-known (pos k) {l} e = go (ltb 0 k && leb k 10) refl e
   where
-    go : (q : Bool) → leb k 10 ≡ q → cond q k 0 ≤ 10
-    go true e = leb-true k 10 e
-    go false e = omega arith
-level-most (negsuc k) = omega arith
+    go : (q : Bool) → (ltb 0 k && leb k 10) ≡ q → unless q (refusal 1 0) (accepted k) ≡ accepted l → (1 ≤ l) × (l ≤ 10)
+    go true t e =
+        let b = and-true _ _ t in
+        let s : k ≡ l = cc in
+        (let h = ltb-true 0 k (b .0) in omega (arith, h), let h = leb-true k 10 (b .1) in omega (arith, h))
+    go false t e = clash (cc)
+level-known (negsuc k) e = clash (cc)
 
--- ---- the place
+-- ---- the position
 
 unit-of : (z : ℤ) → unit (side z) (index z) ≡ z
 unit-of (pos n) = refl
@@ -51,39 +67,65 @@ unit-of (negsuc n) = refl
 pub square-of : (u v : ℤ) {p : Place} → p .east ≡ side u → p .north ≡ side v → p .x ≡ index u → p .y ≡ index v → squareOf p ≡ record { longitude = u; latitude = v }
 square-of u v a b c d = rw (a, b, c, d, unit-of u, unit-of v) refl
 
--- ---- the text
+module _ (k : ℕ) (longitude latitude : ℤ) where
+  pub longitude-out : HALF ≤ index longitude → refused (about k (refusal 2 0)) ≡ squareIn k longitude latitude
+  unfolding squareIn
+  longitude-out h = rw (le-ltb (index longitude) HALF h) refl
 
-module _ (level longitude latitude : ℤ) {l : ℕ} (el : l ≡ levelNumber level) where
-  pub asked-level : l ≡ 0 → refuse (refusal 1 0) ≡ planeText level longitude latitude
-  unfolding planeText
-  asked-level h = rw (le-ltb 0 (levelNumber level) (omega arith)) refl
+  pub latitude-out : index longitude < HALF → QUARTER ≤ index latitude → refused (about k (refusal 3 0)) ≡ squareIn k longitude latitude
+  unfolding squareIn
+  latitude-out h i = rw (lt-ltb (index longitude) HALF h, le-ltb (index latitude) QUARTER i) refl
 
-  module _ (some : l ≡ 0 → ⊥) {x : ℕ} (ex : x ≡ index longitude) where
-    level-some : 0 < levelNumber level
-    level-some = omega arith
+  pub position-within : index longitude < HALF → index latitude < QUARTER → {s : Square} → s ≡ record { longitude = longitude; latitude = latitude } → accepted s ≡ squareIn k longitude latitude
+  unfolding squareIn
+  position-within h i e = rw (lt-ltb (index longitude) HALF h, lt-ltb (index latitude) QUARTER i, e) refl
 
-    pub asked-longitude : HALF ≤ x → refuse (refusal 2 0) ≡ planeText level longitude latitude
-    unfolding planeText
-    asked-longitude h = rw (lt-ltb 0 (levelNumber level) level-some, le-ltb (index longitude) HALF (omega arith)) refl
+  -- the place of a position that was accepted
+  position-known : (p : Place) → squareIn k longitude latitude ≡ accepted (squareOf p) → (p .x < HALF) × (p .y < QUARTER)
+  unfolding squareIn
+  position-known p e = go (ltb (index longitude) HALF) refl (ltb (index latitude) QUARTER) refl e
+    where
+      s : Square
+      s = record { longitude = longitude; latitude = latitude }
 
-    module _ (hx : x < HALF) {y : ℕ} (ey : y ≡ index latitude) where
-      pub asked-latitude : QUARTER ≤ y → refuse (refusal 3 0) ≡ planeText level longitude latitude
-      unfolding planeText
-      asked-latitude h = rw (lt-ltb 0 (levelNumber level) level-some, lt-ltb (index longitude) HALF (omega arith), le-ltb (index latitude) QUARTER (omega arith)) refl
-
-      pub asked-at : y < QUARTER → {p : Place} → Placed longitude latitude p → text (codeOf l (squareOf p)) ≡ planeText level longitude latitude
-      unfolding planeText
-      asked-at h {p} q =
-          rw (lt-ltb 0 (levelNumber level) level-some, lt-ltb (index longitude) HALF (omega arith), lt-ltb (index latitude) QUARTER (omega arith))
-          (ap (λ (s : Square). text (codeOf l s)) (q .same) ∙ ap (λ (k : ℕ). text (codeOf k (record { longitude = longitude; latitude = latitude }))) el)
+      go : (a : Bool) → ltb (index longitude) HALF ≡ a → (b : Bool) → ltb (index latitude) QUARTER ≡ b
+          → unless a (about k (refusal 2 0)) (unless b (about k (refusal 3 0)) (accepted s)) ≡ accepted (squareOf p) → (p .x < HALF) × (p .y < QUARTER)
+      go true ta true tb e =
+          let q : s ≡ squareOf p = cc in
+          let x : index longitude ≡ p .x = ap (λ (z : Square). index (z .longitude)) q ∙ index-unit (p .east) (p .x) in
+          let y : index latitude ≡ p .y = ap (λ (z : Square). index (z .latitude)) q ∙ index-unit (p .north) (p .y) in (
+            let h : index longitude < HALF = ltb-true (index longitude) HALF ta in omega (arith, x, h),
+            let h : index latitude < QUARTER = ltb-true (index latitude) QUARTER tb in omega (arith, y, h),
+          )
+      go true ta false tb e = clash (cc)
+      go false ta b tb e = clash (cc)
 
 -- ---- what was asked for, once its case is known
 
-pub fitting-at : {a : Asked} {l : ℕ} {p : Place} → a ≡ At l p → Fitting a → (1 ≤ l) × (l ≤ 10) × (p .x < HALF) × (p .y < QUARTER)
-fitting-at e f = subst Fitting e f
+module _ {t : Answer ℕ} {a : AskedLevel} (f : levelAsked a ≡ t) where
+  pub level-at : {l : ℕ} → a ≡ level.At l → t ≡ accepted l
+  level-at e = sym f ∙ ap levelAsked e
 
-pub text-at : {a : Asked} {l : ℕ} {p : Place} {t : Text} → a ≡ At l p → askedText a ≡ t → text (codeOf l (squareOf p)) ≡ t
-text-at e f = ap askedText (sym e) ∙ f
+  pub level-refused : {r : Refusal} → a ≡ level.Refused r → t ≡ refused r
+  level-refused e = sym f ∙ ap levelAsked e
 
-pub text-refused : {a : Asked} {r : Refusal} {t : Text} → a ≡ Refused r → askedText a ≡ t → t ≡ refuse r
-text-refused e f = sym f ∙ ap askedText e
+module _ {t : Answer Square} {a : AskedPosition} (f : positionAsked a ≡ t) where
+  pub position-at : {p : Place} → a ≡ position.At p → t ≡ accepted (squareOf p)
+  position-at e = sym f ∙ ap positionAsked e
+
+  pub position-refused : {r : Refusal} → a ≡ position.Refused r → t ≡ refused r
+  position-refused e = sym f ∙ ap positionAsked e
+
+pub position-fits : (k : ℕ) (u v : ℤ) {a : AskedPosition} {p : Place} → positionAsked a ≡ squareIn k u v → a ≡ position.At p → (p .x < HALF) × (p .y < QUARTER)
+position-fits k u v {p = p} f e = position-known k u v p (position-at f e)
+
+-- ---- the text, once the level is known
+
+module _ (level longitude latitude : ℤ) where
+  pub text-level : {l : ℕ} → levelIn level ≡ accepted l → planeTextAt l longitude latitude ≡ planeText level longitude latitude
+  unfolding planeText
+  text-level e = then-accepted (λ (k : ℕ). planeTextAt k longitude latitude) e
+
+  pub text-refused : {r : Refusal} → levelIn level ≡ refused r → planeText level longitude latitude ≡ refused r
+  unfolding planeText
+  text-refused e = sym (then-refused (λ (k : ℕ). planeTextAt k longitude latitude) e)

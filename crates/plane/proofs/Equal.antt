@@ -1,16 +1,22 @@
--- Two results that the contract of `plane::ask` allows are equal: the level, both sides and both indices, or the refusal.
+-- Two results that the contracts of `plane::ask_level` and `plane::ask_position` allow are equal: the level, both sides and both indices, or the refusal.
 -- Assumes nothing.
 use mathlib.Core.Path.{_≡_, sym, _∙_, ap}
-use lib.IntN.{ℤ}
 use Rattle.grid.specs.declared.Place.{Place}
 use Rattle.grid.specs.Units.{side, index}
 use Rattle.grid.specs.inner.Roads.{squareOf}
 use Rattle.grid.proofs.Cut.{clash}
 use Rattle.grid.proofs.PlaneLaws.{index-unit, side-unit}
-use Rattle.plane.specs.declared.Asked.{Asked}
-use Rattle.plane.specs.declared.Asked.the-variants.{At, Refused}
-use Rattle.plane.specs.Text.{planeText}
-use Rattle.plane.specs.inner.Asking.{askedText, Same}
+use Rattle.plane.specs.declared.AskedLevel.{AskedLevel}
+use Rattle.plane.specs.declared.AskedLevel.the-variants as level
+use Rattle.plane.specs.declared.AskedPosition.{AskedPosition}
+use Rattle.plane.specs.declared.AskedPosition.the-variants as position
+use Rattle.plane.specs.inner.Asking.{levelAsked, positionAsked}
+
+pub level-one : (a b : AskedLevel) → levelAsked a ≡ levelAsked b → a ≡ b
+level-one (level.At l) (level.At m) e = cc
+level-one (level.At l) (level.Refused r) e = clash (cc)
+level-one (level.Refused r) (level.At m) e = clash (cc)
+level-one (level.Refused r) (level.Refused q) e = cc
 
 -- a square has one place
 one-place : (p q : Place) → squareOf p ≡ squareOf q → p ≡ q
@@ -22,10 +28,8 @@ one-place p q e =
       y = (sym (index-unit (p .north) (p .y)) ∙ ap (λ s. index (s .latitude)) e ∙ index-unit (q .north) (q .y)) j;
     }
 
-pub plane-ask : (level longitude latitude : ℤ) (a b : Asked) → askedText a ≡ planeText level longitude latitude → Same level longitude latitude a
-    → askedText b ≡ planeText level longitude latitude → Same level longitude latitude b → a ≡ b
-plane-ask level longitude latitude (At l p) (At m q) e s f t =
-    λ j. At ((s .0 ∙ sym (t .0)) j) (one-place p q (s .1 ∙ sym (t .1)) j)
-plane-ask level longitude latitude (At l p) (Refused r) e s f t = clash (cc)
-plane-ask level longitude latitude (Refused r) (At m q) e s f t = clash (cc)
-plane-ask level longitude latitude (Refused r) (Refused q) e s f t = cc
+pub position-one : (a b : AskedPosition) → positionAsked a ≡ positionAsked b → a ≡ b
+position-one (position.At p) (position.At q) e = λ j. position.At (one-place p q (cc) j)
+position-one (position.At p) (position.Refused r) e = clash (cc)
+position-one (position.Refused r) (position.At q) e = clash (cc)
+position-one (position.Refused r) (position.Refused q) e = cc

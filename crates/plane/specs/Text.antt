@@ -1,28 +1,29 @@
 -- What a plane code writer is to write: refusals 1, 2 and 3, or the code.
 -- Assumes nothing.
-use mathlib.Core.Bool.{cond}
+use mathlib.Core.Bool.{_&&_}
+use mathlib.Core.List.{List}
 use Prim.Native.Nat.{ℕ}
 use lib.Dec.{ltb, leb}
 use lib.IntN.{ℤ, pos, negsuc}
 use Rattle.grid.specs.Units.{HALF, QUARTER, index, Square}
-use Rattle.grid.specs.Laying.{Text, text, unless}
+use Rattle.grid.specs.Answers.{Answer, accepted, refused, refusal, about, unless, andThen}
 use Rattle.grid.specs.Plane.{codeOf}
 
--- the level, or 0 where it is outside 1 to 10
-abbrev pub levelNumber : ℤ → ℕ
-levelNumber (pos n) = cond (leb n 10) n 0
-levelNumber (negsuc n) = 0
+-- the level, or 1 where it is outside 1 to 10
+unfoldable pub levelIn : ℤ → Answer ℕ
+levelIn (pos n) = unless (ltb 0 n && leb n 10) (refusal 1 0) (accepted n)
+levelIn (negsuc n) = refused (refusal 1 0)
 
--- refusal 1, else what is to be written at the level
-abbrev pub atLevel : ℤ → (ℕ → Text) → Text
-atLevel level f = unless (ltb 0 (levelNumber level)) 1 (f (levelNumber level))
+-- the square of a position, or 2 and 3 in that order; k says which of its call's positions it is
+unfoldable pub squareIn : ℕ → ℤ → ℤ → Answer Square
+squareIn k longitude latitude =
+    unless (ltb (index longitude) HALF) (about k (refusal 2 0))
+    (unless (ltb (index latitude) QUARTER) (about k (refusal 3 0)) (accepted (record { longitude = longitude; latitude = latitude })))
 
--- refusals 2 and 3 in that order, else what is to be written for the square
-abbrev pub atPosition : ℤ → ℤ → (Square → Text) → Text
-atPosition longitude latitude f =
-    unless (ltb (index longitude) HALF) 2
-    (unless (ltb (index latitude) QUARTER) 3 (f (record { longitude = longitude; latitude = latitude })))
+-- 2 and 3 in that order, else the plane code of level l
+abbrev pub planeTextAt : ℕ → ℤ → ℤ → Answer (List ℕ)
+planeTextAt l longitude latitude = andThen (squareIn 1 longitude latitude) (λ s. accepted (codeOf l s))
 
--- refusals 1, 2 and 3 in that order, else the plane code
-unfoldable pub planeText : ℤ → ℤ → ℤ → Text
-planeText level longitude latitude = atLevel level (λ l. atPosition longitude latitude (λ s. text (codeOf l s)))
+-- 1, 2 and 3 in that order, else the plane code
+unfoldable pub planeText : ℤ → ℤ → ℤ → Answer (List ℕ)
+planeText level longitude latitude = andThen (levelIn level) (λ l. planeTextAt l longitude latitude)

@@ -10,12 +10,12 @@ ghost use lib.Seq.{sets};
 ghost use Rattle.grid.specs.Units.{HALF, QUARTER, index};
 ghost use Rattle.grid.specs.Splits.{first, splitAt};
 ghost use Rattle.grid.specs.Characters.{digitOf};
-ghost use Rattle.grid.specs.Answers.{refusal, planeRead};
-ghost use Rattle.grid.specs.Laying.{text, laid, written};
+ghost use Rattle.grid.specs.Answers.{accepted, planeRead};
+ghost use Rattle.grid.specs.Laying.{laid, written};
 ghost use Rattle.grid.specs.Plane.{codeOf, cellOf, globeChild};
 ghost use Rattle.grid.specs.inner.Roads.{squareOf};
-ghost use Rattle.plane.specs.Text.{planeText, levelNumber};
-ghost use Rattle.plane.specs.inner.Asking.{askedText, placeAt, Fitting, Same, Placed, PlaneWritable};
+ghost use Rattle.plane.specs.Text.{levelIn, squareIn, planeTextAt, planeText};
+ghost use Rattle.plane.specs.inner.Asking.{levelAsked, positionAsked, placeAt, PlaneWritable};
 ghost use Rattle.plane.specs.inner.Lengths.{levelOf};
 ghost use Rattle.plane.specs.inner.Start.{firstRead, Ranged, northOrSouth, letteredRead, zonedRead};
 use grid::Place;
@@ -148,27 +148,35 @@ fn begin(code: &[u8]) -> First
     zoned(a == b'N', b, c, d)
 }
 
-// What a position writer is asked for, once refusals 1, 2 and 3 are decided in that order.
-pub enum Asked {
-    At(u32, Place),
+// A level that is asked for, or refusal 1.
+pub enum AskedLevel {
+    At(u32),
     Refused(Refusal),
 }
 
-// A refusal that carries no place.
-pub fn refuse(number: u32) -> Refusal
-    ensures { λ r. ⌜ r ≡ refusal number 0 ⌝ }
+// The place of a position that is asked for, or refusal 2 or 3.
+pub enum AskedPosition {
+    At(Place),
+    Refused(Refusal),
+}
+
+// The level, or 1 where it is outside 1 to 10.
+pub fn ask_level(level: i64) -> AskedLevel
+    ensures { λ r. ⌜ levelAsked r ≡ levelIn level ⌝ }
 {
-    Refusal {
-        number: number,
-        place: 0,
-        ordinal: 1,
+    if level < 1 {
+        return AskedLevel::Refused(grid::refuse(1));
     }
+    if 10 < level {
+        return AskedLevel::Refused(grid::refuse(1));
+    }
+    AskedLevel::At(level as u32)
 }
 
 // The place of a position on the globe.
 fn placed(longitude: i64, latitude: i64, x: u64, y: u64) -> Place
     requires { ⌜ (x ≡ index longitude) × (y ≡ index latitude) × (x < HALF) × (y < QUARTER) ⌝ }
-    ensures { λ r. ⌜ Placed longitude latitude r ⌝ }
+    ensures { λ r. ⌜ squareOf r ≡ record { longitude = longitude; latitude = latitude } ⌝ }
 {
     Place {
         east: upper(longitude),
@@ -178,41 +186,24 @@ fn placed(longitude: i64, latitude: i64, x: u64, y: u64) -> Place
     }
 }
 
-// The level, or 0 where it is outside 1 to 10.
-fn level_in(level: i64) -> u32
-    ensures { λ r. ⌜ r ≡ levelNumber level ⌝ }
-{
-    if level < 1 {
-        return 0;
-    }
-    if 10 < level {
-        return 0;
-    }
-    level as u32
-}
-
 // The ranges as they are held against an i64's outward index.
 const HALF: u64 = grid::HALF as u64;
 
 const QUARTER: u64 = grid::QUARTER as u64;
 
-// Refusals 1, 2 and 3, else the level and the place.
-pub fn ask(level: i64, longitude: i64, latitude: i64) -> Asked
-    ensures { λ r. ⌜ (askedText r ≡ planeText level longitude latitude) × Fitting r × Same level longitude latitude r ⌝ }
+// The place of a position, or 2 and 3 in that order, about the position of the call that the ordinal says.
+pub fn ask_position(ordinal: u32, longitude: i64, latitude: i64) -> AskedPosition
+    ensures { λ r. ⌜ positionAsked r ≡ squareIn ordinal longitude latitude ⌝ }
 {
-    let l = level_in(level);
     let x = outward(longitude);
     let y = outward(latitude);
-    if l == 0 {
-        return Asked::Refused(refuse(1));
-    }
     if HALF <= x {
-        return Asked::Refused(refuse(2));
+        return AskedPosition::Refused(grid::about(ordinal, grid::refuse(2)));
     }
     if QUARTER <= y {
-        return Asked::Refused(refuse(3));
+        return AskedPosition::Refused(grid::about(ordinal, grid::refuse(3)));
     }
-    Asked::At(l, placed(longitude, latitude, x, y))
+    AskedPosition::At(placed(longitude, latitude, x, y))
 }
 
 // Writes the code of a level for a place from the line's first byte on. The place is handed over by its parts, which travel in registers: a `Place`
@@ -237,26 +228,37 @@ pub fn put(level: u32, east: bool, north: bool, x: u32, y: u32, line: &mut [u8])
 // Lays the code of a level for a place into the line from `at` on, if there is room: refusal 5, else the number of bytes.
 pub fn lay(level: u32, p: Place, line: &mut [u8], at: usize) -> Written
     requires { ⌜ (1 ≤ level) × (level ≤ 10) × (p .x < HALF) × (p .y < QUARTER) ⌝ }
-    ensures { λ r. ⌜ (written r, now (line .exit)) ≡ laid (text (codeOf level (squareOf p))) (now (line .entry)) at ⌝ }
+    ensures { λ r. ⌜ (written r, now (line .exit)) ≡ laid (accepted (codeOf level (squareOf p))) (now (line .entry)) at ⌝ }
 {
     if line.len() < at {
-        return Written::Refused(refuse(5));
+        return Written::Refused(grid::refuse(5));
     }
     let n = length_of(level);
     if line.len() - at < n {
-        return Written::Refused(refuse(5));
+        return Written::Refused(grid::refuse(5));
     }
     put(level, p.east, p.north, p.x, p.y, &mut line[at..]);
     Written::Bytes(n)
+}
+
+// The plane code of a level for a position: refusals 2, 3 and 5, in that order.
+fn write_at(level: u32, longitude: i64, latitude: i64, line: &mut [u8], at: usize) -> Written
+    requires { ⌜ (1 ≤ level) × (level ≤ 10) ⌝ }
+    ensures { λ r. ⌜ (written r, now (line .exit)) ≡ laid (planeTextAt level longitude latitude) (now (line .entry)) at ⌝ }
+{
+    match ask_position(1, longitude, latitude) {
+        AskedPosition::At(p) => lay(level, p, line, at),
+        AskedPosition::Refused(r) => Written::Refused(r),
+    }
 }
 
 // The plane code of a position, written into the line from `at` on. Refusals 1, 2, 3 and 5, in that order; a refusal changes no byte.
 pub fn write(level: i64, longitude: i64, latitude: i64, line: &mut [u8], at: usize) -> Written
     ensures { λ r. ⌜ (written r, now (line .exit)) ≡ laid (planeText level longitude latitude) (now (line .entry)) at ⌝ }
 {
-    match ask(level, longitude, latitude) {
-        Asked::At(l, p) => lay(l, p, line, at),
-        Asked::Refused(r) => Written::Refused(r),
+    match ask_level(level) {
+        AskedLevel::At(l) => write_at(l, longitude, latitude, line, at),
+        AskedLevel::Refused(r) => Written::Refused(r),
     }
 }
 
@@ -266,15 +268,11 @@ pub fn read(code: &[u8]) -> PlaneRead
 {
     let level = level_of(code.len());
     if level == 0 {
-        return PlaneRead::Refused(refuse(6));
+        return PlaneRead::Refused(grid::refuse(6));
     }
     match begin(code) {
         First::Sheet(north, zone, row) => ordinary_read::rest(level, north, zone, row, code),
         First::Pole(north) => polar_read::rest(level, north, code),
-        First::Bad(place) => PlaneRead::Refused(Refusal {
-            number: 7,
-            place: place,
-            ordinal: 1,
-        }),
+        First::Bad(place) => PlaneRead::Refused(grid::wrong_character(place)),
     }
 }

@@ -17,7 +17,6 @@ ghost use Rattle.polar_read.specs.inner.Reading.{columnsOf, inmostOf, di
 ghost use Rattle.polar_read.specs.inner.Room.{OfLevel, Whole, PolarRoom, ChildRoom, PolarReady};
 use grid::Cell;
 use grid::PlaneRead;
-use grid::Refusal;
 use grid::Split;
 
 // 60°, the width of a belt cell.
@@ -295,16 +294,10 @@ impl Cursor {
         requires { ⌜ (self .good ≡ true → Whole self) ⌝ }
         ensures { λ r. ⌜ planeRead r ≡ polarAnswer level (polarReading self) ⌝ }
     {
-        let good = self.good;
-        if good {
-            PlaneRead::Found(self.cell(level))
-        } else {
-            PlaneRead::Refused(Refusal {
-                number: 7,
-                place: self.place,
-                ordinal: 1,
-            })
+        if self.good {
+            return PlaneRead::Found(self.cell(level));
         }
+        PlaneRead::Refused(grid::wrong_character(self.place))
     }
 }
 

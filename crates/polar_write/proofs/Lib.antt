@@ -1,9 +1,6 @@
-pub mod Steps
 pub mod Table
-pub mod Loops
 pub mod Moves
 pub mod Reached
-pub mod Bounds
 pub mod Written
 pub mod Begins
 pub mod Starts

@@ -4,37 +4,30 @@ use mathlib.Core.Path.{_≡_, refl, sym, _∙_, ap, subst}
 use mathlib.Core.Bool.{Bool, true, false}
 use mathlib.Core.List.{List, _∷_}
 use Prim.Native.Nat.{ℕ, zero, suc, _+_, _-_, _*_, _/_, _%_, _≤_, _<_}
-use native.Mathlib.Nat.{div-add-mod', div-div-eq-div-mul, mod-lt, div-eq-of-lt, div-lt-iff-lt-mul, mul-add-div-right, div-eq-of-eq-mul-left, mul-div-cancel, mul-assoc, mul-comm, add-mul}
+use native.Mathlib.Nat.{div-add-mod', div-div-eq-div-mul, div-eq-of-eq-mul-left, mul-div-cancel, mul-assoc, mul-comm}
 use native.Mathlib.Omega.{arith}
 use Rattle.grid.specs.declared.Split.{Split}
-use Rattle.grid.specs.Units.{TURN, eastward, fromPole, Square}
+use Rattle.grid.specs.Units.{eastward, fromPole, Square}
 use Rattle.grid.specs.Tree.{ok}
-use Rattle.grid.specs.Plane.{Frame, xIn, yIn, Box, Node, globe, pole, cell, cap, Part, nearPole, partOf, polarPart, capPart, formOf, ringNode, ringColumn, write, digitsOf, childOf}
-use Rattle.grid.proofs.Cut.{ok-inj}
-use Rattle.grid.proofs.Step.{In, InCell, InCap, Allowed, Exact, read-write, boxOf, cell-read, cell-into, cap-here, eastward-below}
-use Rattle.grid.proofs.PlaneLaws.{Good, GoodCell, GoodCap, cell-exact, cap-exact, good}
-use Rattle.polar_write.specs.inner.Spots.{spot, ringWidth, capStep, spotIn, spotStep}
+use Rattle.grid.specs.inner.Roads.{digitsIn}
+use Rattle.grid.specs.Plane.{Frame, xIn, yIn, Box, Node, globe, pole, cell, cap, Part, nearPole, partOf, polarPart, capPart, ringNode, ringColumn, write, digitsOf, childOf}
+use Rattle.grid.proofs.Cut.{part-direct}
+use Rattle.grid.proofs.Step.{In, InCell, InCap, read-write, boxOf, cell-read, ring-here}
+use Rattle.grid.proofs.PlaneLaws.{Good, GoodCell, GoodCap, cell-exact, cap-exact}
+use Rattle.polar_write.specs.inner.Spots.{spot, ringWidth, capStep, spotIn, spotStep, SpotDivides}
 use Rattle.polar_write.proofs.Table.{Told}
 
 -- ---- numbers
 
 -- of a width of m · d, in parts of m
-pub rest-parts : (X m d : ℕ) → 0 < m → X % (m * d) / m ≡ X / m % d
-rest-parts X m d p =
-    let q = X / m / d in
-    let r = X / m % d in
-    let a : q * d + r ≡ X / m = div-add-mod' (X / m) d in
-    let b : X / m * m + X % m ≡ X = div-add-mod' X m in
-    let f : X / (m * d) ≡ q = sym (div-div-eq-div-mul X m d) in
-    let g : X / (m * d) * (m * d) + X % (m * d) ≡ X = div-add-mod' X (m * d) in
-    let h : q * (m * d) + X % (m * d) ≡ X = subst (λ (z : ℕ). z * (m * d) + X % (m * d) ≡ X) f g in
-    let i : (q * d + r) * m ≡ q * (m * d) + r * m = add-mul (q * d) r m ∙ ap (λ (z : ℕ). z + r * m) (mul-assoc q d m ∙ ap (λ (z : ℕ). q * z) (mul-comm d m)) in
-    let j : (q * d + r) * m ≡ X / m * m = ap (λ (z : ℕ). z * m) a in
-    let k : X % (m * d) ≡ r * m + X % m = omega arith in
-    ap (λ (z : ℕ). z / m) k ∙ mul-add-div-right p r (X % m) ∙ ap (λ (z : ℕ). r + z) (div-eq-of-lt (mod-lt X p)) ∙ (let z : r + 0 ≡ r = omega arith in z)
+rest-parts : (X m d : ℕ) → 0 < m → 0 < d → X % (m * d) / m ≡ X / m % d
+rest-parts X m d p q =
+    let e : X / (d * m) * (d * m) + X % (d * m) ≡ X = div-add-mod' X (d * m) in
+    let r : X % (d * m) ≡ X - X / (d * m) * (d * m) = omega arith in
+    rw (mul-comm m d, r) (part-direct X d m q p)
 
 -- the rest of a place in its child is the remainder
-pub rest-direct : (X x0 d : ℕ) → x0 ≤ X → X - (x0 + (X - x0) / d * d) ≡ (X - x0) % d
+rest-direct : (X x0 d : ℕ) → x0 ≤ X → X - (x0 + (X - x0) / d * d) ≡ (X - x0) % d
 rest-direct X x0 d h = let e : (X - x0) / d * d + (X - x0) % d ≡ X - x0 = div-add-mod' (X - x0) d in omega arith
 
 -- ---- a cell as wide as m times its height
@@ -46,10 +39,6 @@ pub record ShapedCell (h : ℕ) (f : Frame) (b : Box) : Type 0 where
   pub some : 0 < m
   pub wide : b .w ≡ m * h
 
--- its parts: units of width to a unit of height
-pub shaped-parts : (h : ℕ) (f : Frame) (b : Box) → 0 < h → (S : ShapedCell h f b) → b .w / b .h ≡ S .m
-shaped-parts h f b p S = ap (λ (z : ℕ). b .w / z) (S .high) ∙ div-eq-of-eq-mul-left p (S .wide)
-
 -- the nodes below level 1 near a pole
 abbrev pub Shaped : ℕ → Node → Type 0
 Shaped h globe = ⊥
@@ -58,13 +47,12 @@ Shaped h (cell f b) = ShapedCell h f b
 Shaped h (cap n k) = k ≡ h
 
 -- what one level does to a square in a node
-pub record Moved (t : Split) (ts : List Split) (n : Node) (s : Square) : Type 0 where
+pub record Moved (t : Split) (n : Node) (s : Square) : Type 0 where
+  pub divides : SpotDivides t
   pub to : Node
   pub child : childOf t n (digitsOf t n s) ≡ ok to
-  pub inside : In to s
-  pub fine : Good ts to
   pub shape : Shaped (t .width) to
-  pub digits : digitsOf t n s ≡ write (formOf (t .characters) (spotStep t (spotIn n s) .columns)) (spotStep t (spotIn n s) .column) (spotStep t (spotIn n s) .row)
+  pub digits : digitsOf t n s ≡ digitsIn t (spotStep t (spotIn n s) .digits)
   pub rest : spotIn to s ≡ spotStep t (spotIn n s) .rest
 
 module _ (h : ℕ) (t : Split) (T : Told h t) where
@@ -89,31 +77,30 @@ module _ (h : ℕ) (t : Split) (T : Told h t) where
     part-height : p .height ≡ t .width
     part-height = ap (λ (q : Part). q .height) part-near ∙ ap (λ (z : ℕ). z / t .inward) (S .high) ∙ child-height
 
+    -- units of width to a unit of height
     parts-of : b .w / b .h ≡ S .m
-    parts-of = shaped-parts h f b (T .high) S
+    parts-of = ap (λ (z : ℕ). b .w / z) (S .high) ∙ div-eq-of-eq-mul-left (T .high) (S .wide)
 
     child-parts : p .width / p .height ≡ S .m
-    child-parts = rw (part-width, part-height) (mul-div-cancel (S .m) (T .some-width))
+    child-parts = rw (part-width, part-height) (mul-div-cancel (S .m) (T .divides .wide))
 
     column-of : (X : ℕ) → X / p .width ≡ X / (b .w / b .h) / t .width
     column-of X = rw (part-width, parts-of) (sym (div-div-eq-div-mul X (S .m) (t .width)))
 
     column-rest : (X : ℕ) → b .x ≤ X → (X - (b .x + (X - b .x) / p .width * p .width)) / (p .width / p .height) ≡ (X - b .x) / (b .w / b .h) % t .width
-    column-rest X l = rw (rest-direct X (b .x) (p .width) l, child-parts, parts-of, part-width) (rest-parts (X - b .x) (S .m) (t .width) (S .some))
+    column-rest X l = rw (rest-direct X (b .x) (p .width) l, child-parts, parts-of, part-width) (rest-parts (X - b .x) (S .m) (t .width) (S .some) (T .divides .wide))
 
     row-rest : (Y : ℕ) → b .y ≤ Y → Y - (b .y + (Y - b .y) / p .height * p .height) ≡ (Y - b .y) % t .width
     row-rest Y l = rw (rest-direct Y (b .y) (p .height) l, part-height) refl
 
-    cell-moved : (ts : List Split) (s : Square) → GoodCell (t ∷ ts) f b → InCell f b s → Moved t ts (cell f b) s
+    cell-moved : (ts : List Split) (s : Square) → GoodCell (t ∷ ts) f b → InCell f b s → Moved t (cell f b) s
     unfolding spotStep spotIn
     cell-moved ts s g i =
         let E = cell-exact t ts f b g in
-        let e = cell-read (t .characters) p f b E s i in
         record {
+          divides = T .divides;
           to = cell f (boxOf (t .characters) p f b E s);
-          child = e;
-          inside = cell-into (t .characters) p f b E s i;
-          fine = good t ts (cell f b) _ _ g e;
+          child = cell-read (t .characters) p f b E s i;
           shape = record { near = S .near; high = part-height; m = S .m; some = S .some; wide = part-width };
           digits = rw (column-of (xIn f s - b .x), part-height, ap (λ (q : Part). q .form) part-near) refl;
           rest = λ j. spot false (column-rest (xIn f s) (i .inside .xl) j) (row-rest (yIn f s) (i .inside .yl) j);
@@ -137,9 +124,9 @@ module _ (h : ℕ) (t : Split) (T : Told h t) where
 
     ring-shape : (r : ℕ) → Shaped (t .width) (ring r)
     ring-shape zero = child-height
-    ring-shape (suc r) = record { near = refl; high = child-height; m = ringWidth t / t .width; some = T .some-parts; wide = sym (T .parts) }
+    ring-shape (suc r) = record { near = refl; high = child-height; m = ringWidth t / t .width; some = T .divides .parts; wide = sym (T .parts) }
 
-    ring-digits : (r : ℕ) → write (c .form) (ringColumn c r e) r ≡ write (formOf (t .characters) (capStep t e q r .columns)) (capStep t e q r .column) (capStep t e q r .row)
+    ring-digits : (r : ℕ) → write (c .form) (ringColumn c r e) r ≡ digitsIn t (capStep t e q r .digits)
     ring-digits zero = refl
     ring-digits (suc r) = refl
 
@@ -151,37 +138,22 @@ module _ (h : ℕ) (t : Split) (T : Told h t) where
         let y : q - (0 + suc r * t .width) ≡ q % t .width = (let a : q / t .width * t .width + q % t .width ≡ q = div-add-mod' q (t .width) in let b : suc r * t .width + q % t .width ≡ q = rw (← z) a in omega arith) in
         rw (child-height, x, y) refl
 
-    -- the row and the column are the cap's
-    ring-allowed : Exact true (t .characters) c TURN h → InCap n h s → (r : ℕ) → q / c .height ≡ r → Allowed true c (ringColumn c r e) r
-    ring-allowed E i r z = record { col = col r; row = subst (λ (r : ℕ). r < c .rows) z (div-lt-iff-lt-mul (E .some-h) .1 (subst (λ (x : ℕ). q < x) (sym (E .high)) (i .near))); first = first r }
-      where
-        col : (r : ℕ) → ringColumn c r e < c .columns
-        col zero = E .some-c
-        col (suc r) = div-lt-iff-lt-mul (E .some-w) .1 (subst (λ (x : ℕ). e < x) (sym (E .wide)) (eastward-below s (i .on)))
-
-        first : (r : ℕ) → _≡_ {A = Bool} true true → r ≡ 0 → ringColumn c r e ≡ 0
-        first zero _ _ = refl
-        first (suc r) _ x = absurd (omega arith)
-
-    cap-moved : (ts : List Split) → GoodCap (t ∷ ts) h → InCap n h s → Moved t ts (cap n h) s
+    cap-moved : (ts : List Split) → GoodCap (t ∷ ts) h → InCap n h s → Moved t (cap n h) s
     unfolding spotStep spotIn
     cap-moved ts g i =
         let E = cap-exact t ts h g in
-        let H = cap-here (t .characters) c n h E s i in
-        let d : childOf t (cap n h) (digitsOf t (cap n h) s) ≡ ok (ring (q / c .height)) = read-write (c .form) true c (λ x y. ringNode n c h x y) _ _ (E .fits) (ring-allowed E i (q / c .height) refl) in
         let r : q / c .height ≡ q / t .width = ap (λ (z : ℕ). q / z) child-height in
         record {
+          divides = T .divides;
           to = ring (q / c .height);
-          child = d;
-          inside = subst (λ (m : Node). In m s) (ok-inj (sym (H .1) ∙ d)) (H .2);
-          fine = good t ts (cap n h) _ _ g d;
+          child = read-write (c .form) true c (λ x y. ringNode n c h x y) _ _ (E .fits) (ring-here (t .characters) c n h E s i (q / c .height) refl .0);
           shape = ring-shape (q / c .height);
-          digits = subst (λ (r : ℕ). write (c .form) (ringColumn c (q / c .height) e) (q / c .height) ≡ write (formOf (t .characters) (capStep t e q r .columns)) (capStep t e q r .column) (capStep t e q r .row)) r (ring-digits (q / c .height));
+          digits = subst (λ (r : ℕ). write (c .form) (ringColumn c (q / c .height) e) (q / c .height) ≡ digitsIn t (capStep t e q r .digits)) r (ring-digits (q / c .height));
           rest = ap (λ (r : ℕ). spotIn (ring r) s) r ∙ ring-rest (q / t .width) refl;
         }
 
-  pub moves : (ts : List Split) (n : Node) (s : Square) → Good (t ∷ ts) n → In n s → Shaped h n → Moved t ts n s
+  pub moves : (ts : List Split) (n : Node) (s : Square) → Good (t ∷ ts) n → In n s → Shaped h n → Moved t n s
   moves ts globe s g i z = absurd z
   moves ts (pole n) s g i z = absurd z
   moves ts (cell f b) s g i z = cell-moved f b z ts s g i
-  moves ts (cap n k) s g i z = subst (λ (x : ℕ). GoodCap (t ∷ ts) x → InCap n x s → Moved t ts (cap n x) s) (sym z) (cap-moved n s ts) g i
+  moves ts (cap n k) s g i z = subst (λ (x : ℕ). GoodCap (t ∷ ts) x → InCap n x s → Moved t (cap n x) s) (sym z) (cap-moved n s ts) g i

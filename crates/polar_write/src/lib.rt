@@ -3,16 +3,15 @@
 // it is high, in parts as wide as need be, so that its columns and rows are found alike and every divisor is a constant.
 
 ghost use mathlib.Core.Path.{_≡_};
-ghost use mathlib.Core.Bool.{cond};
-ghost use Prim.Native.Nat.{_+_, _*_, _/_, _≤_, _<_};
-ghost use lib.Dec.{eqb};
+ghost use Prim.Native.Nat.{_+_, _/_, _≤_, _<_};
 ghost use lib.ListN.{length};
 ghost use lib.Seq.{sets};
 ghost use Rattle.grid.specs.Units.{TURN, HALF, DISC, unit, eastward};
-ghost use Rattle.grid.specs.inner.Roads.{squareOf, placeOf};
+ghost use Rattle.grid.specs.inner.Roads.{squareOf};
 ghost use Rattle.grid.specs.Splits.{second, polarCellAt};
 ghost use Rattle.grid.specs.Plane.{SIXTH, polarHeight, beltBox, codeOf};
-ghost use Rattle.polar_write.specs.inner.Spots.{firstChars, capStep, spotStep, added, SpotDivides, SpotFits, SpotReady, Gone, Polar, Lies, LiesInColumn, Begun, SpotStarted, PolarWritable};
+ghost use Rattle.polar_write.specs.inner.Spots.{firstChars, capStep, spotStep, SpotDivides, SpotReady, Gone, Polar, Lies, LiesInColumn, Begun, SpotStarted, PolarWritable};
+use grid::Digits;
 use grid::Place;
 use grid::Split;
 
@@ -26,12 +25,11 @@ struct Spot {
     y: u32,
 }
 
-// One level: how many columns there are, the square's column and row (at level 2 the two digits), and where it stands in that child.
+// One level: where the square stands in its child, and the digits that lead there (at level 2 those of the polar cell).
+// The rest comes first, here and where a step is made: with the digits first the writer takes a tenth more instructions.
 struct Step {
-    columns: u32,
-    column: u32,
-    row: u32,
     rest: Spot,
+    digits: Digits,
 }
 
 // One level of a cap, e eastward and q from the pole: row 0 is the new cap, another row leaves it.
@@ -42,29 +40,31 @@ fn divide_cap(s: Split, e: u32, q: u32) -> Step
     let h = s.width;
     let row = q / h;
     if row == 0 {
-        let rest = Spot {
-            cap: true,
-            x: e,
-            y: q,
-        };
         return Step {
-            columns: s.ring,
-            column: 0,
-            row: 0,
-            rest: rest,
+            rest: Spot {
+                cap: true,
+                x: e,
+                y: q,
+            },
+            digits: Digits {
+                columns: s.ring,
+                column: 0,
+                row: 0,
+            },
         };
     }
     let w = grid::TURN / s.ring;
-    let rest = Spot {
-        cap: false,
-        x: e % w / (w / h),
-        y: q % h,
-    };
     Step {
-        columns: s.ring,
-        column: e / w,
-        row: row,
-        rest: rest,
+        rest: Spot {
+            cap: false,
+            x: e % w / (w / h),
+            y: q % h,
+        },
+        digits: Digits {
+            columns: s.ring,
+            column: e / w,
+            row: row,
+        },
     }
 }
 
@@ -79,45 +79,17 @@ fn divide(s: Split, spot: Spot) -> Step
         return divide_cap(s, x, y);
     }
     let h = s.width;
-    let rest = Spot {
-        cap: false,
-        x: x % h,
-        y: y % h,
-    };
     Step {
-        columns: s.columns,
-        column: x / h,
-        row: y / h,
-        rest: rest,
-    }
-}
-
-// The one digit of a column and a row: 2·row + column, or row + column in a cap of three columns.
-fn single(columns: u32, column: u32, row: u32) -> u32
-    requires { ⌜ (column < 16) × (row < 2) ⌝ }
-    ensures { λ r. ⌜ r ≡ cond (eqb columns 2) (2 * row + column) (row + column) ⌝ }
-{
-    if columns == 2 {
-        2 * row + column
-    } else {
-        row + column
-    }
-}
-
-// Writes what place k of the table, level k + 1, adds to a code: nothing where the code ends before it.
-fn put_step(level: u32, k: u32, s: Split, d: Step, line: &mut [u8])
-    requires { ⌜ SpotFits level k s d (now line) ⌝ }
-    ensures { λ _. ⌜ now (line .exit) ≡ sets (now (line .entry)) (placeOf s) (added level k s d) ⌝ }
-{
-    if level <= k {
-        return;
-    }
-    let at = s.length - s.characters;
-    if s.characters == 2 {
-        line[at] = grid::character(d.column);
-        line[at + 1] = grid::character(d.row);
-    } else {
-        line[at] = grid::character(single(d.columns, d.column, d.row));
+        rest: Spot {
+            cap: false,
+            x: x % h,
+            y: y % h,
+        },
+        digits: Digits {
+            columns: s.columns,
+            column: x / h,
+            row: y / h,
+        },
     }
 }
 
@@ -127,7 +99,7 @@ fn next(level: u32, k: u32, s: Split, spot: Spot, line: &mut [u8]) -> Spot
     ensures { λ r. ⌜ Gone level k s spot (now (line .entry)) (now (line .exit)) r ⌝ }
 {
     let d = divide(s, spot);
-    put_step(level, k, s, d, line);
+    grid::put_digits(level, k, s, d.digits, line, s.length - s.characters);
     d.rest
 }
 
@@ -198,16 +170,17 @@ fn to_belt(k: u32, p: Place) -> Step
     ensures { λ r. ⌜ Begun p r ⌝ }
 {
     let c = grid::polar_cell(k as usize);
-    let rest = Spot {
-        cap: false,
-        x: (p.x - corner_of(c.west)) / (SIXTH / high()),
-        y: p.y - c.low,
-    };
     Step {
-        columns: 4,
-        column: k / 4,
-        row: k % 4,
-        rest: rest,
+        rest: Spot {
+            cap: false,
+            x: (p.x - corner_of(c.west)) / (SIXTH / high()),
+            y: p.y - c.low,
+        },
+        digits: Digits {
+            columns: 4,
+            column: k / 4,
+            row: k % 4,
+        },
     }
 }
 
@@ -253,16 +226,17 @@ fn to_disc(k: u32, p: Place) -> Step
 {
     let c = grid::polar_cell(k as usize);
     let h = high();
-    let rest = Spot {
-        cap: false,
-        x: (eastward_of(p.east, p.x) - c.west) / (third() / h),
-        y: c.low + h - 1 - p.y,
-    };
     Step {
-        columns: 4,
-        column: k / 4,
-        row: k % 4,
-        rest: rest,
+        rest: Spot {
+            cap: false,
+            x: (eastward_of(p.east, p.x) - c.west) / (third() / h),
+            y: c.low + h - 1 - p.y,
+        },
+        digits: Digits {
+            columns: 4,
+            column: k / 4,
+            row: k % 4,
+        },
     }
 }
 
@@ -271,16 +245,17 @@ fn to_cap(p: Place) -> Step
     requires { ⌜ Lies 0 p ⌝ }
     ensures { λ r. ⌜ Begun p r ⌝ }
 {
-    let rest = Spot {
-        cap: true,
-        x: eastward_of(p.east, p.x),
-        y: grid::QUARTER - 1 - p.y,
-    };
     Step {
-        columns: 4,
-        column: 0,
-        row: 0,
-        rest: rest,
+        rest: Spot {
+            cap: true,
+            x: eastward_of(p.east, p.x),
+            y: grid::QUARTER - 1 - p.y,
+        },
+        digits: Digits {
+            columns: 4,
+            column: 0,
+            row: 0,
+        },
     }
 }
 
@@ -321,7 +296,8 @@ fn start(level: u32, p: Place, line: &mut [u8]) -> Spot
 {
     put_first(p.north, line);
     let d = begin(p);
-    put_step(level, 1, grid::split_of(1), d, line);
+    let s = grid::split_of(1);
+    grid::put_digits(level, 1, s, d.digits, line, s.length - s.characters);
     d.rest
 }
 

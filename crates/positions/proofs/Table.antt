@@ -6,13 +6,13 @@ use Rattle.grid.specs.Tree.{code, follow}
 use Rattle.grid.specs.Codes.{codeIn, readIn}
 use Rattle.grid.specs.Plane.{polarCellOf, planeCodes, codeOf, cellOf}
 use Rattle.grid.specs.Space.{spaceCodes, spaceCodeOf, spaceCellOf}
-use Rattle.plane.specs.Text.{planeText}
+use Rattle.plane.specs.Text.{levelIn, squareIn, planeText}
 use Rattle.plane.specs.inner.Lengths.{levelOf}
 use Rattle.space.specs.Space.{spaceText, layeredText}
 use Rattle.reference.specs.Offsets.{movedTo, between, spanIn}
-use Rattle.reference.specs.Text.{fit, spelled, spanned, referenceText, targetOf, aimed, targetText}
+use Rattle.reference.specs.Text.{fit, spelled, spanned, referenceText, targetOf, offsetIn, targetText}
 use Rattle.positions.specs.Cases.{given, said, cases}
 
 pub all-hold : map given cases ≡ map said cases
-unfolding planeText levelOf spaceText layeredText referenceText spanned spelled fit between spanIn targetText aimed targetOf movedTo codeOf cellOf spaceCodeOf spaceCellOf codeIn readIn code follow charOf digitOf polarCellOf planeCodes spaceCodes
+unfolding levelIn squareIn planeText levelOf spaceText layeredText referenceText spanned spelled fit between spanIn targetText offsetIn targetOf movedTo codeOf cellOf spaceCodeOf spaceCellOf codeIn readIn code follow charOf digitOf polarCellOf planeCodes spaceCodes
 all-hold = refl

@@ -8,7 +8,6 @@ use lib.IntN.{ℤ, pos, negℤ, _-ℤ_}
 use Rattle.grid.specs.declared.Cell.{Cell}
 use Rattle.grid.specs.declared.SpaceCell.{SpaceCell}
 use Rattle.grid.specs.Answers.{Answer, accepted, refused, refusal}
-use Rattle.grid.specs.Laying.{Text, refuse, text}
 use Rattle.grid.specs.Plane.{cellOf, cellFrom}
 use Rattle.grid.specs.Space.{spaceCellOf}
 use Rattle.plane.specs.Text.{planeText}
@@ -56,7 +55,7 @@ pub data Case : Type 0 where
 
 -- what a call gives: a text, a cell or a space cell
 pub data Outcome : Type 0 where
-  texts : Text → Outcome
+  texts : Answer (List ℕ) → Outcome
   cells : Answer Cell → Outcome
   spaces : Answer SpaceCell → Outcome
 
@@ -73,13 +72,13 @@ given (stops t n p) = cells (cellOf (bytes t))
 
 -- what document 01 says
 abbrev pub said : Case → Outcome
-said (writes l u v t) = texts (text (bytes t))
+said (writes l u v t) = texts (accepted (bytes t))
 said (reads t l x y w h) = cells (accepted (cellFrom l x y w h))
-said (layers l u v z t) = texts (text (bytes t))
+said (layers l u v z t) = texts (accepted (bytes t))
 said (stacks t l x y w h f n) = spaces (accepted (record { cell = cellFrom l x y w h; floor = f; thickness = n }))
-said (leads t s) = texts (text (bytes s))
-said (relates b t s) = texts (text (bytes s))
-said (outside l u v n) = texts (refuse (refusal n 0))
+said (leads t s) = texts (accepted (bytes s))
+said (relates b t s) = texts (accepted (bytes s))
+said (outside l u v n) = texts (refused (refusal n 0))
 said (stops t n p) = cells (refused (refusal n p))
 
 -- document 01's cases

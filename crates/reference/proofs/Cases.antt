@@ -8,11 +8,11 @@ use Prim.Native.String.{String}
 use Rattle.grid.specs.declared.Refusal.{Refusal}
 use Rattle.grid.specs.Characters.{charOf, digitOf}
 use Rattle.grid.specs.Tree as Tree
-use Rattle.grid.specs.Laying.{refuse, text}
+use Rattle.grid.specs.Answers as answers
 use Rattle.grid.specs.Codes.{codeIn, readIn}
 use Rattle.grid.specs.Plane.{codeOf, cellOf}
 use Rattle.reference.specs.Offsets.{movedTo, between, spanIn}
-use Rattle.reference.specs.Text.{fit, spelled, spanned, referenceText, targetOf, aimed, targetText}
+use Rattle.reference.specs.Text.{fit, spelled, spanned, referenceText, targetOf, offsetIn, targetText}
 
 -- a text's bytes
 abbrev bytes : String → List ℕ
@@ -40,12 +40,12 @@ cases =
     ∷ from "N60AB01E0E0" "N01AB01E0E0" "N60AB01E0E0-10"
     ∷ []
 
-written : map (λ c. referenceText (bytes (c .base)) (bytes (c .target))) cases ≡ map (λ c. text (bytes (c .reference))) cases
+written : map (λ c. referenceText (bytes (c .base)) (bytes (c .target))) cases ≡ map (λ c. answers.accepted (bytes (c .reference))) cases
 unfolding referenceText spanned spelled fit between spanIn cellOf readIn Tree.follow digitOf charOf
 written = refl
 
-read : map (λ c. targetText (bytes (c .reference))) cases ≡ map (λ c. text (bytes (c .target))) cases
-unfolding targetText aimed targetOf fit movedTo cellOf readIn codeOf codeIn Tree.follow Tree.code digitOf charOf
+read : map (λ c. targetText (bytes (c .reference))) cases ≡ map (λ c. answers.accepted (bytes (c .target))) cases
+unfolding targetText offsetIn targetOf fit movedTo cellOf readIn codeOf codeIn Tree.follow Tree.code digitOf charOf
 read = refl
 
 -- ---- refusals, each with its number, place and ordinal
@@ -72,7 +72,7 @@ not-written =
     ∷ refused "N31A0000000" "S31A0000007" 10 0 1
     ∷ []
 
-writing : map (λ c. referenceText (bytes (c .code)) (bytes (c .other))) not-written ≡ map (λ c. refuse (c .gives)) not-written
+writing : map (λ c. referenceText (bytes (c .code)) (bytes (c .other))) not-written ≡ map (λ c. answers.refused (c .gives)) not-written
 unfolding referenceText spanned spelled fit between spanIn cellOf readIn Tree.follow digitOf charOf
 writing = refl
 
@@ -92,6 +92,6 @@ not-read =
     ∷ refused "S31V074090E-0A" "" 12 0 1
     ∷ []
 
-reading : map (λ c. targetText (bytes (c .code))) not-read ≡ map (λ c. refuse (c .gives)) not-read
-unfolding targetText aimed targetOf fit movedTo cellOf readIn codeOf codeIn Tree.follow Tree.code digitOf charOf
+reading : map (λ c. targetText (bytes (c .code))) not-read ≡ map (λ c. answers.refused (c .gives)) not-read
+unfolding targetText offsetIn targetOf fit movedTo cellOf readIn codeOf codeIn Tree.follow Tree.code digitOf charOf
 reading = refl

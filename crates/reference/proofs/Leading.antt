@@ -1,7 +1,7 @@
 -- Where an offset leads: what the writer finds the reader leads back to, and what the reader leads to the writer finds.
 -- Assumes nothing.
 use mathlib.Core.Path.{_≡_, refl, sym, _∙_, ap, subst}
-use mathlib.Core.Bool.{Bool, true, false, _&&_}
+use mathlib.Core.Bool.{true, _&&_}
 use mathlib.Core.List.{List}
 use Prim.Native.Nat.{ℕ, _-_, _≤_, _<_, _∣_}
 use lib.Dec.{ltb, leb, eqb}
@@ -10,27 +10,20 @@ use lib.ListN.{length, take}
 use borrow.Author.Tests.{ltb-true, leb-true, eqb-true, lt-ltb, le-leb, eq-eqb}
 use Rattle.grid.specs.declared.Cell.{Cell}
 use Rattle.grid.specs.Units.{POLAR, index, Square}
-use Rattle.grid.specs.Answers.{Answer, accepted, refused}
+use Rattle.grid.specs.Answers.{Answer, accepted, refused, refusal, unless}
 use Rattle.grid.specs.Cells.{around}
 use Rattle.grid.specs.Splits.{splitAt}
-use Rattle.grid.specs.Laying.{Text, text, unless}
 use Rattle.grid.specs.Plane.{longitudeAt, codeOf, cellOf}
+use Rattle.grid.proofs.Answers.{then-accepted, accepted-inj, unless-accepted, then-from}
 use Rattle.grid.proofs.Cut.{clash, and-true}
 use Rattle.reference.specs.Offsets.{offsetDigit, movedTo, moved}
-use Rattle.reference.specs.Text.{fit, eastSpan, northSpan, referenceCode, spelled, spanned, related, referenceText, targetSquare, targetOf, Aim, aimOf, ledTo, targetText}
+use Rattle.reference.specs.Text.{fit, eastSpan, northSpan, referenceCode, spelled, spanned, related, referenceText, targetSquare, Aim, targetOf, aimOf, targetText}
 use Rattle.reference.specs.Meaning.{southAfter, MovedBy, OffsetTo, Formed, Leads}
 use Rattle.reference.proofs.Numbers.{longitudeAt-around, around-moved, digit-fits, moved-sum, span-of-moved, span-leads}
 use Rattle.reference.proofs.Corners.{Fit, fit-of, to-fit, corner, corner-code, Target, target}
 use Rattle.reference.proofs.Spelling.{formed, formed-start, read-formed, formed-of}
 
 -- ---- what a text that is written says of the tests before it
-
-text-inj : {a b : List ℕ} → text a ≡ text b → a ≡ b
-text-inj e = cc
-
-pub unless-text : (q : Bool) (n : ℕ) (t : Text) (w : List ℕ) → unless q n t ≡ text w → (q ≡ true) × (t ≡ text w)
-unless-text true n t w e = (refl, e)
-unless-text false n t w e = clash (cc)
 
 -- the writer gives the reference code r
 pub record Spanned (w : List ℕ) (b t : Cell) (r : List ℕ) : Type 0 where
@@ -41,13 +34,13 @@ pub record Spanned (w : List ℕ) (b t : Cell) (r : List ℕ) : Type 0 where
   pub north : northSpan b t ≤ 16
   pub same : referenceCode w (eastSpan b t) (northSpan b t) ≡ r
 
-spanned-of : (w : List ℕ) (b t : Cell) (r : List ℕ) → spanned w b t ≡ text r → Spanned w b t r
+spanned-of : (w : List ℕ) (b t : Cell) (r : List ℕ) → spanned w b t ≡ accepted r → Spanned w b t r
 unfolding spanned spelled
 spanned-of w b t r e =
-    let a = unless-text (fit b && fit t) 8 _ r e in
+    let a = unless-accepted (fit b && fit t) _ _ r e in
     let f = and-true (fit b) (fit t) (a .0) in
-    let l = unless-text (eqb (b .level) (t .level)) 9 _ r (a .1) in
-    let s = unless-text (leb (eastSpan b t) 16 && leb (northSpan b t) 16) 10 _ r (l .1) in
+    let l = unless-accepted (eqb (b .level) (t .level)) _ _ r (a .1) in
+    let s = unless-accepted (leb (eastSpan b t) 16 && leb (northSpan b t) 16) _ _ r (l .1) in
     let o = and-true (leb (eastSpan b t) 16) (leb (northSpan b t) 16) (s .0) in
     record {
       fit-base = f .0;
@@ -55,14 +48,14 @@ spanned-of w b t r e =
       level = eqb-true (b .level) (t .level) (l .0);
       east = leb-true (eastSpan b t) 16 (o .0);
       north = leb-true (northSpan b t) 16 (o .1);
-      same = text-inj (s .1);
+      same = accepted-inj (s .1);
     }
 
-to-spanned : (w : List ℕ) (b t : Cell) (r : List ℕ) → Spanned w b t r → spanned w b t ≡ text r
+to-spanned : (w : List ℕ) (b t : Cell) (r : List ℕ) → Spanned w b t r → spanned w b t ≡ accepted r
 unfolding spanned spelled
 to-spanned w b t r s =
     rw (s .fit-base, s .fit-target, eq-eqb (b .level) (t .level) (s .level), le-leb (eastSpan b t) 16 (s .east), le-leb (northSpan b t) 16 (s .north))
-    (ap text (s .same))
+    (ap accepted (s .same))
 
 pub record Related (w : List ℕ) (x y : Answer Cell) (r : List ℕ) : Type 0 where
   pub base : Cell
@@ -71,7 +64,7 @@ pub record Related (w : List ℕ) (x y : Answer Cell) (r : List ℕ) : Type 0 wh
   pub read-target : y ≡ accepted target
   pub spans : Spanned w base target r
 
-pub related-of : (w : List ℕ) (x y : Answer Cell) (r : List ℕ) → related w x y ≡ text r → Related w x y r
+pub related-of : (w : List ℕ) (x y : Answer Cell) (r : List ℕ) → related w x y ≡ accepted r → Related w x y r
 related-of w (refused q) y r e = clash (cc)
 related-of w (accepted b) (refused q) r e = clash (cc)
 related-of w (accepted b) (accepted t) r e = record { base = b; target = t; read-base = refl; read-target = refl; spans = spanned-of w b t r e }
@@ -97,15 +90,20 @@ module _ (b t : Cell) (fb : Fit b) (ft : Fit t) (l : b .level ≡ t .level) (he 
       let a = span-leads (b .height) (N .some) (N .small) (N .turn) (b .south) (t .south) (N .whole) (subst (λ (x : ℕ). x ∣ around (t .south)) (sym same-height) (ft .north .whole)) hn in
       (a .0, ap longitudeAt (a .1) ∙ longitudeAt-around (t .south) (ft .north .within))
 
-  leads-square : targetSquare b (eastSpan b t) (northSpan b t) ≡ corner t
-  leads-square = λ i. record { longitude = east-leads .1 i; latitude = north-leads .1 i }
+  pub moves-there : MovedBy b t (eastSpan b t) (northSpan b t)
+  unfolding movedTo
+  moves-there =
+      let N = fb .north in
+      record {
+        level = sym l;
+        width = sym same-width;
+        height = sym same-height;
+        west = ap around (sym (east-leads .1)) ∙ around-moved (b .width) (eastSpan b t) (b .west);
+        south = sym (north-leads .1) ∙ moved-sum (b .height) (N .some) (N .small) (northSpan b t) (b .south) (north-leads .0) (fb .south-in);
+      }
 
-  pub leads-text : (w : List ℕ) → cellOf w ≡ accepted t → targetOf b (eastSpan b t) (northSpan b t) ≡ text w
-  unfolding targetOf
-  leads-text w e =
-      rw (to-fit b fb)
-      (subst (λ (s : Square). unless (ltb (index (s .latitude)) POLAR) 12 (text (codeOf (b .level) s)) ≡ text w) (sym leads-square)
-      (rw (lt-ltb (index (t .south)) POLAR (ft .south-in), l) (ap text (sym (corner-code w t e ft)))))
+  abbrev pub found : OffsetTo b t
+  found = record { m = eastSpan b t; n = northSpan b t; east = east-leads .0; north = north-leads .0; moves = moves-there }
 
 -- ---- the offset to what the reader leads to is the one that was read
 
@@ -123,7 +121,7 @@ module _ (b : Cell) (m n : ℕ) (f : Fit b) (hm : offsetDigit m ≡ true) (hn : 
       let N = f .north in
       span-of-moved (b .height) (N .some) (N .small) n (b .south) (reached .cell .south) hn (ap around (reached .south) ∙ around-moved (b .height) n (b .south))
 
-  pub reached-spanned : (w : List ℕ) → spanned w b (reached .cell) ≡ text (referenceCode w m n)
+  pub reached-spanned : (w : List ℕ) → spanned w b (reached .cell) ≡ accepted (referenceCode w m n)
   reached-spanned w =
       to-spanned w b (reached .cell) (referenceCode w m n)
       (record {
@@ -156,24 +154,21 @@ pub record Taken (w goal : List ℕ) : Type 0 where
   pub away : index (targetSquare (formed .from) (formed .m) (formed .n) .latitude) < 648806400
   pub same : codeOf (formed .from .level) (targetSquare (formed .from) (formed .m) (formed .n)) ≡ goal
 
-pub taken : (w goal : List ℕ) → targetText w ≡ text goal → Taken w goal
+pub taken : (w goal : List ℕ) → targetText w ≡ accepted goal → Taken w goal
 unfolding targetText targetOf
-taken w goal e = go (aimOf w) refl e
-  where
-    go : (x : Answer Aim) → aimOf w ≡ x → ledTo x ≡ text goal → Taken w goal
-    go (refused r) q e = clash (cc)
-    go (accepted a) q e =
-        let g = formed-of w a q in
-        let f = g .0 in
-        let b = unless-text (fit (f .from)) 8 _ goal (subst (λ (x : Aim). ledTo (accepted x) ≡ text goal) (sym (g .1)) e) in
-        let c = unless-text (ltb (index (targetSquare (f .from) (f .m) (f .n) .latitude)) POLAR) 12 _ goal (b .1) in
-        record {
-          formed = f;
-          starts = formed-start w f;
-          fits = fit-of (f .base) (f .from) (f .read-base) (b .0);
-          away = ltb-true _ POLAR (c .0);
-          same = text-inj (c .1);
-        }
+taken w goal e =
+    let x = then-from (aimOf w) targetOf goal e in
+    let g = formed-of w (x .0) (x .1) in
+    let f = g .0 in
+    let b = unless-accepted (fit (f .from)) _ _ goal (subst (λ (a : Aim). targetOf a ≡ accepted goal) (sym (g .1)) (x .2)) in
+    let c = unless-accepted (ltb (index (targetSquare (f .from) (f .m) (f .n) .latitude)) POLAR) _ _ goal (b .1) in
+    record {
+      formed = f;
+      starts = formed-start w f;
+      fits = fit-of (f .base) (f .from) (f .read-base) (b .0);
+      away = ltb-true _ POLAR (c .0);
+      same = accepted-inj (c .1);
+    }
 
 -- the writer's text for two cells that were read
 pub related-read : (w : List ℕ) (x y : Answer Cell) (b t : Cell) → x ≡ accepted b → y ≡ accepted t → related w x y ≡ spanned w b t
@@ -181,7 +176,7 @@ related-read w x y b t p q = rw (p, q) refl
 
 -- ---- the reader accepts a code that leads to a target, and no other
 
-pub leads-of : (w goal : List ℕ) → targetText w ≡ text goal → Leads w goal
+pub leads-of : (w goal : List ℕ) → targetText w ≡ accepted goal → Leads w goal
 leads-of w goal e =
     let a = taken w goal e in
     let f = a .formed in
@@ -196,7 +191,7 @@ leads-of w goal e =
     }
 
 -- a base moved to a target: the square that is read is the target's corner
-moved-text : (b t : Cell) (m n : ℕ) (w : List ℕ) → Fit b → Fit t → offsetDigit m ≡ true → offsetDigit n ≡ true → MovedBy b t m n → cellOf w ≡ accepted t → targetOf b m n ≡ text w
+moved-text : (b t : Cell) (m n : ℕ) (w : List ℕ) → Fit b → Fit t → offsetDigit m ≡ true → offsetDigit n ≡ true → MovedBy b t m n → cellOf w ≡ accepted t → targetOf (record { from = b; m = m; n = n }) ≡ accepted w
 unfolding targetOf movedTo
 moved-text b t m n w fb ft hm hn v e =
     let N = fb .north in
@@ -204,27 +199,27 @@ moved-text b t m n w fb ft hm hn v e =
     let y : moved (b .height) n (b .south) ≡ t .south = moved-sum (b .height) (N .some) (N .small) n (b .south) hn (fb .south-in) ∙ sym (v .south) in
     let s : targetSquare b m n ≡ corner t = λ i. record { longitude = x i; latitude = y i } in
     rw (to-fit b fb)
-    (subst (λ (q : Square). unless (ltb (index (q .latitude)) POLAR) 12 (text (codeOf (b .level) q)) ≡ text w) (sym s)
-    (rw (lt-ltb (index (t .south)) POLAR (ft .south-in), ← v .level) (ap text (sym (corner-code w t e ft)))))
+    (subst (λ (q : Square). unless (ltb (index (q .latitude)) POLAR) (refusal 12 0) (accepted (codeOf (b .level) q)) ≡ accepted w) (sym s)
+    (rw (lt-ltb (index (t .south)) POLAR (ft .south-in), ← v .level) (ap accepted (sym (corner-code w t e ft)))))
 
-pub of-leads : (w goal : List ℕ) → Leads w goal → targetText w ≡ text goal
+pub of-leads : (w goal : List ℕ) → Leads w goal → targetText w ≡ accepted goal
 unfolding targetText
 of-leads w goal l =
     let f = l .formed in
-    ap ledTo (read-formed w f)
+    sym (then-accepted targetOf (read-formed w f))
     ∙ moved-text (f .from) (l .to) (f .m) (f .n) goal (fit-of (f .base) (f .from) (f .read-base) (l .fit-base)) (fit-of goal (l .to) (l .read-goal) (l .fit-goal)) (f .east) (f .north) (l .moves) (l .read-goal)
 
 -- ---- a base and an offset
 
 module _ (base : List ℕ) (b : Cell) (m n : ℕ) (e : cellOf base ≡ accepted b) (f : fit b ≡ true) (hm : offsetDigit m ≡ true) (hn : offsetDigit n ≡ true) where
-  pub by-latitude : targetText (referenceCode base m n) ≡ unless (ltb (index (southAfter b n)) POLAR) 12 (text (codeOf (b .level) (targetSquare b m n)))
+  pub by-latitude : targetText (referenceCode base m n) ≡ unless (ltb (index (southAfter b n)) POLAR) (refusal 12 0) (accepted (codeOf (b .level) (targetSquare b m n)))
   unfolding targetText targetOf
   by-latitude =
       let F = fit-of base b e f in
       let N = F .north in
       let y : moved (b .height) n (b .south) ≡ southAfter b n = moved-sum (b .height) (N .some) (N .small) n (b .south) hn (F .south-in) in
-      ap ledTo (read-formed _ (formed base b m n e hm hn))
-      ∙ rw f (ap (λ (z : ℤ). unless (ltb (index z) POLAR) 12 (text (codeOf (b .level) (targetSquare b m n)))) y)
+      sym (then-accepted targetOf (read-formed _ (formed base b m n e hm hn)))
+      ∙ rw f (ap (λ (z : ℤ). unless (ltb (index z) POLAR) (refusal 12 0) (accepted (codeOf (b .level) (targetSquare b m n)))) y)
 
 -- ---- a base and a target
 
@@ -234,27 +229,8 @@ module _ (base goal : List ℕ) (b t : Cell) (eb : cellOf base ≡ accepted b) (
   by-offset = related-read base (cellOf base) (cellOf goal) b t eb et ∙ rw (f, g, eq-eqb (b .level) (t .level) l) refl
 
   -- the offset that the writer finds
-  pub found-offset : eastSpan b t ≤ 16 → northSpan b t ≤ 16 → OffsetTo b t
-  unfolding movedTo
-  found-offset he hn =
-      let fb = fit-of base b eb f in
-      let ft = fit-of goal t et g in
-      let N = fb .north in
-      let x = east-leads b t fb ft l he hn in
-      let y = north-leads b t fb ft l he hn in
-      record {
-        m = eastSpan b t;
-        n = northSpan b t;
-        east = x .0;
-        north = y .0;
-        moves = record {
-          level = sym l;
-          width = sym (same-width b t fb ft l he hn);
-          height = sym (same-height b t fb ft l he hn);
-          west = ap around (sym (x .1)) ∙ around-moved (b .width) (eastSpan b t) (b .west);
-          south = sym (y .1) ∙ moved-sum (b .height) (N .some) (N .small) (northSpan b t) (b .south) (y .0) (fb .south-in);
-        };
-      }
+  abbrev pub found-offset : eastSpan b t ≤ 16 → northSpan b t ≤ 16 → OffsetTo b t
+  found-offset = found b t (fit-of base b eb f) (fit-of goal t et g) l
 
   -- one that leads there
   abbrev pub leads-by : (o : OffsetTo b t) → Leads (referenceCode base (o .m) (o .n)) goal

@@ -19,15 +19,14 @@ use Rattle.grid.specs.declared.Place.{Place}
 use Rattle.grid.specs.declared.Refusal.{Refusal}
 use Rattle.grid.specs.Units.{TURN, HALF, QUARTER, POLAR, index, unit, Square}
 use Rattle.grid.specs.inner.Roads.{squareOf}
-use Rattle.grid.specs.Answers.{accepted, refusal, wrongCharacter}
+use Rattle.grid.specs.Answers.{Answer, accepted, refused, refusal, wrongCharacter}
 use Rattle.grid.specs.Cells.{around}
-use Rattle.grid.specs.Laying.{Text, refuse, text}
 use Rattle.grid.specs.Characters.{digitOf}
 use Rattle.grid.specs.Plane.{longitudeAt, codeOf}
 use Rattle.grid.proofs.Cut.{clash, and-true}
 use Rattle.grid.proofs.PlaneLaws.{index-unit, index-longitudeAt}
 use Rattle.reference.specs.Offsets.{offsetDigit, movedTo, between, spanIn, spanOf}
-use Rattle.reference.specs.Text.{fit, eastSpan, northSpan, referenceCode, spelled, spanned, targetSquare, targetOf, aimed, ledTo}
+use Rattle.reference.specs.Text.{fit, eastSpan, northSpan, referenceCode, spelled, spanned, targetSquare, Aim, targetOf, offsetIn}
 use Rattle.reference.specs.inner.Parts.{Known, Steps}
 use Rattle.reference.proofs.Numbers.{around-below, moved-below, digit-ways, digit-fits, onward, up-to-seven, at-least-one, moved-on}
 use Rattle.reference.proofs.Corners.{fit-of}
@@ -169,27 +168,27 @@ module _ (size v : ℕ) (some : 0 < size) (small : size ≤ 8192) (h : offsetDig
 -- ---- what lies between two cells
 
 module _ (b t : Cell) where
-  pub too-far-east : {m : ℕ} {r : Refusal} → m ≡ eastSpan b t → 16 < m → r ≡ refusal 10 0 → (w : List ℕ) → refuse r ≡ spelled w b t
+  pub too-far-east : {m : ℕ} {r : Refusal} → m ≡ eastSpan b t → 16 < m → r ≡ refusal 10 0 → (w : List ℕ) → refused r ≡ spelled w b t
   unfolding spelled
   too-far-east {m} e h q w = rw (q, ← e, lt-leb m 16 h) refl
 
-  pub too-far-north : {m n : ℕ} {r : Refusal} → m ≡ eastSpan b t → m ≤ 16 → n ≡ northSpan b t → 16 < n → r ≡ refusal 10 0 → (w : List ℕ) → refuse r ≡ spelled w b t
+  pub too-far-north : {m n : ℕ} {r : Refusal} → m ≡ eastSpan b t → m ≤ 16 → n ≡ northSpan b t → 16 < n → r ≡ refusal 10 0 → (w : List ℕ) → refused r ≡ spelled w b t
   unfolding spelled
   too-far-north {m} {n} e h f k q w = rw (q, ← e, ← f, le-leb m 16 h, lt-leb n 16 k) refl
 
-  pub near-both : {m n : ℕ} → m ≡ eastSpan b t → m ≤ 16 → n ≡ northSpan b t → n ≤ 16 → (w : List ℕ) → text (referenceCode w m n) ≡ spelled w b t
+  pub near-both : {m n : ℕ} → m ≡ eastSpan b t → m ≤ 16 → n ≡ northSpan b t → n ≤ 16 → (w : List ℕ) → accepted (referenceCode w m n) ≡ spelled w b t
   unfolding spelled
   near-both {m} {n} e h f k w = rw (← e, ← f, le-leb m 16 h, le-leb n 16 k) refl
 
-  pub not-fit : {r : Refusal} → false ≡ (fit b && fit t) → r ≡ refusal 8 0 → (w : List ℕ) → refuse r ≡ spanned w b t
+  pub not-fit : {r : Refusal} → false ≡ (fit b && fit t) → r ≡ refusal 8 0 → (w : List ℕ) → refused r ≡ spanned w b t
   unfolding spanned
   not-fit e q w = rw (q, ← e) refl
 
-  pub levels-differ : {r : Refusal} → true ≡ (fit b && fit t) → (b .level ≡ t .level → ⊥) → r ≡ refusal 9 0 → (w : List ℕ) → refuse r ≡ spanned w b t
+  pub levels-differ : {r : Refusal} → true ≡ (fit b && fit t) → (b .level ≡ t .level → ⊥) → r ≡ refusal 9 0 → (w : List ℕ) → refused r ≡ spanned w b t
   unfolding spanned
   levels-differ e h q w = rw (q, ← e, ne-eqb (b .level) (t .level) h) refl
 
-pub levels-same : (b t : Cell) {x : Text} (w : List ℕ) → true ≡ (fit b && fit t) → b .level ≡ t .level → x ≡ spelled w b t → x ≡ spanned w b t
+pub levels-same : (b t : Cell) {x : Answer (List ℕ)} (w : List ℕ) → true ≡ (fit b && fit t) → b .level ≡ t .level → x ≡ spelled w b t → x ≡ spanned w b t
 unfolding spanned
 levels-same b t w e h q = rw (← e, eq-eqb (b .level) (t .level) h) q
 
@@ -214,8 +213,12 @@ landed-at b m n p w s q x y =
     let v = y ∙ ap (movedTo (b .height) n) (toZ-ofZ s) in
     q ∙ (λ i. record { longitude = longitudeAt (u i); latitude = longitudeAt (v i) })
 
+-- the base b with M and N
+abbrev aim : Cell → ℕ → ℕ → Aim
+aim b m n = record { from = b; m = m; n = n }
+
 module _ (b : Cell) (m n : ℕ) where
-  pub target-unfit : {r : Refusal} → false ≡ fit b → r ≡ refusal 8 0 → refuse r ≡ targetOf b m n
+  pub target-unfit : {r : Refusal} → false ≡ fit b → r ≡ refusal 8 0 → refused r ≡ targetOf (aim b m n)
   unfolding targetOf
   target-unfit e q = rw (q, ← e) refl
 
@@ -226,11 +229,11 @@ module _ (b : Cell) (m n : ℕ) where
     longitude-is : index (targetSquare b m n .longitude) ≡ p .x
     longitude-is = sym (ap (λ (s : Square). index (s .longitude)) same) ∙ index-unit (p .east) (p .x)
 
-    pub target-at : p .y < 648806400 → text (codeOf (b .level) (squareOf p)) ≡ targetOf b m n
+    pub target-at : p .y < 648806400 → accepted (codeOf (b .level) (squareOf p)) ≡ targetOf (aim b m n)
     unfolding targetOf
-    target-at h = rw (← e, lt-ltb _ POLAR (subst (λ (y : ℕ). y < 648806400) (sym latitude-is) h)) (ap (λ (s : Square). text (codeOf (b .level) s)) same)
+    target-at h = rw (← e, lt-ltb _ POLAR (subst (λ (y : ℕ). y < 648806400) (sym latitude-is) h)) (ap (λ (s : Square). accepted (codeOf (b .level) s)) same)
 
-    pub target-polar : {r : Refusal} → 648806400 ≤ p .y → r ≡ refusal 12 0 → refuse r ≡ targetOf b m n
+    pub target-polar : {r : Refusal} → 648806400 ≤ p .y → r ≡ refusal 12 0 → refused r ≡ targetOf (aim b m n)
     unfolding targetOf
     target-polar h q = rw (q, ← e, le-ltb _ POLAR (subst (λ (y : ℕ). 648806400 ≤ y) (sym latitude-is) h)) refl
 
@@ -242,19 +245,19 @@ module _ (b : Cell) (m n : ℕ) where
 
 -- ---- the hyphen, M and N
 
-module _ (b : Cell) (k h m n : ℕ) where
-  pub no-hyphen : {r : Refusal} → (h ≡ 45 → ⊥) → r ≡ wrongCharacter k → refuse r ≡ ledTo (aimed k h m n (accepted b))
-  unfolding aimed
+module _ (k h m n : ℕ) where
+  pub no-hyphen : {r : Refusal} → (h ≡ 45 → ⊥) → r ≡ wrongCharacter k → refused r ≡ offsetIn k h m n
+  unfolding offsetIn
   no-hyphen d q = rw (q, ne-eqb h 45 d) refl
 
-  pub no-east : {u : ℕ} {r : Refusal} → h ≡ 45 → u ≡ digitOf m → false ≡ offsetDigit u → r ≡ wrongCharacter (k + 1) → refuse r ≡ ledTo (aimed k h m n (accepted b))
-  unfolding aimed
+  pub no-east : {u : ℕ} {r : Refusal} → h ≡ 45 → u ≡ digitOf m → false ≡ offsetDigit u → r ≡ wrongCharacter (k + 1) → refused r ≡ offsetIn k h m n
+  unfolding offsetIn
   no-east d e f q = rw (q, eq-eqb h 45 d, ← e, ← f) refl
 
-  pub no-north : {u v : ℕ} {r : Refusal} → h ≡ 45 → u ≡ digitOf m → true ≡ offsetDigit u → v ≡ digitOf n → false ≡ offsetDigit v → r ≡ wrongCharacter (k + 2) → refuse r ≡ ledTo (aimed k h m n (accepted b))
-  unfolding aimed
+  pub no-north : {u v : ℕ} {r : Refusal} → h ≡ 45 → u ≡ digitOf m → true ≡ offsetDigit u → v ≡ digitOf n → false ≡ offsetDigit v → r ≡ wrongCharacter (k + 2) → refused r ≡ offsetIn k h m n
+  unfolding offsetIn
   no-north d e f g i q = rw (q, eq-eqb h 45 d, ← e, ← g, ← f, ← i) refl
 
-  pub offset-read : {u v : ℕ} {x : Text} → h ≡ 45 → u ≡ digitOf m → true ≡ offsetDigit u → v ≡ digitOf n → true ≡ offsetDigit v → x ≡ targetOf b u v → x ≡ ledTo (aimed k h m n (accepted b))
-  unfolding aimed
-  offset-read d e f g i q = rw (eq-eqb h 45 d, ← e, ← g, ← f, ← i) q
+  pub both-digits : {u v : ℕ} → h ≡ 45 → u ≡ digitOf m → true ≡ offsetDigit u → v ≡ digitOf n → true ≡ offsetDigit v → accepted (u, v) ≡ offsetIn k h m n
+  unfolding offsetIn
+  both-digits d e f g i = rw (eq-eqb h 45 d, ← e, ← g, ← f, ← i) refl

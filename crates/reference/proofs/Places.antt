@@ -23,7 +23,7 @@ use Rattle.grid.proofs.Places.{agree-at}
 use Rattle.grid.proofs.Refusing.{Answered, as-cell, as-six, as-seven}
 use Rattle.grid.proofs.Theorems.{plane-places}
 use Rattle.reference.specs.Offsets.{offsetDigit}
-use Rattle.reference.specs.Text.{referenceCode, aimed, aimOf, referenceLengths}
+use Rattle.reference.specs.Text.{referenceCode, offsetIn, aimOf, referenceLengths}
 use Rattle.reference.specs.Meaning.{Formed}
 use Rattle.reference.proofs.Numbers.{digit-fits}
 use Rattle.reference.proofs.Lines.{reference-length}
@@ -141,7 +141,7 @@ module _ (a : List ℕ) (h m n : ℕ) where
 
   module _ (b : Cell) (e : cellOf a ≡ accepted b) (long : among (length w) referenceLengths ≡ true) where
     reads : (x y z : ℕ) → eqb x 45 ≡ true → offsetDigit (digitOf y) ≡ true → offsetDigit (digitOf z) ≡ true → Accepted aimOf (behind a x y z)
-    unfolding aimed
+    unfolding offsetIn
     reads x y z p q r = (record { from = b; m = digitOf y; n = digitOf z }, read-behind a x y z ∙ rw (e, p, q, r) refl)
 
     zero-digit : offsetDigit (digitOf 48) ≡ true
@@ -153,7 +153,7 @@ module _ (a : List ℕ) (h m n : ℕ) where
     no-digit r c h q = let l : r ≤ 16 = digit-fits r h in subst (λ (v : ℕ). offsetDigit v ≡ true) (sym (digit-char r (omega arith)) ∙ ap digitOf q) h
 
     behind-answered : Answered aimOf referenceLengths w
-    unfolding aimed
+    unfolding offsetIn
     behind-answered = go (eqb h 45) refl (offsetDigit (digitOf m)) refl (offsetDigit (digitOf n)) refl
       where
         go : (p : Bool) → eqb h 45 ≡ p → (q : Bool) → offsetDigit (digitOf m) ≡ q → (r : Bool) → offsetDigit (digitOf n) ≡ r → Answered aimOf referenceLengths w
@@ -170,7 +170,6 @@ module _ (a : List ℕ) (h m n : ℕ) where
 
 -- a code as long as a reference code
 long-answered : (a : List ℕ) (h m n : ℕ) → among (length a) planeLengths ≡ true → Answered aimOf referenceLengths (behind a h m n)
-unfolding aimed
 long-answered a h m n t = go (plane-places .accepted-six-or-seven a)
   where
     long : among (length (behind a h m n)) referenceLengths ≡ true
@@ -183,7 +182,6 @@ long-answered a h m n t = go (plane-places .accepted-six-or-seven a)
 
 -- any code
 pub answered : (w : List ℕ) → Answered aimOf referenceLengths w
-unfolding aimed
 answered w = go (among k planeLengths) refl
   where
     k : ℕ

@@ -15,12 +15,12 @@ use Rattle.grid.specs.declared.Refusal.{Refusal}
 use Rattle.grid.specs.Characters.{charOf, digitOf}
 use Rattle.grid.specs.Answers.{Answer, accepted, refused, wrongLength}
 use Rattle.grid.specs.Codes.{readIn}
-use Rattle.grid.specs.Laying.{refuse}
 use Rattle.grid.specs.Plane.{cellOf}
+use Rattle.grid.proofs.Answers.{then-refused, accepted-inj, unless-accepted, then-from}
 use Rattle.grid.proofs.Cut.{clash}
 use Rattle.grid.proofs.Characters.{digit-char, char-digit}
 use Rattle.reference.specs.Offsets.{offsetDigit}
-use Rattle.reference.specs.Text.{referenceCode, Aim, unlessAt, aimed, aimOf, ledTo, targetText}
+use Rattle.reference.specs.Text.{referenceCode, Aim, targetOf, offsetIn, aimed, aimOf, targetText}
 use Rattle.reference.specs.Meaning.{Formed}
 use Rattle.reference.proofs.Numbers.{digit-fits}
 
@@ -58,20 +58,15 @@ unfolding cellOf readIn
 empty-refused = refl
 
 short-six : (w : List ℕ) → length w < 3 → aimOf w ≡ refused wrongLength
-unfolding aimed
 short-six w h =
     let z : length w - 3 ≡ 0 = omega arith in
     rw (z, empty-refused) refl
 
-pub too-short : (w : List ℕ) {r : Refusal} → length w < 3 → r ≡ wrongLength → refuse r ≡ targetText w
+pub too-short : (w : List ℕ) {r : Refusal} → length w < 3 → r ≡ wrongLength → refused r ≡ targetText w
 unfolding targetText
-too-short w h q = ap refuse q ∙ sym (ap ledTo (short-six w h))
+too-short w h q = ap refused q ∙ then-refused targetOf (short-six w h)
 
 -- ---- what is read is formed by the rules, and what is so formed is read
-
-unless-at-ok : (q : Bool) (p : ℕ) (a : Answer Aim) (x : Aim) → unlessAt q p a ≡ accepted x → (q ≡ true) × (a ≡ accepted x)
-unless-at-ok true p a x e = (refl, e)
-unless-at-ok false p a x e = clash (cc)
 
 -- a base's code, M and N
 abbrev pub formed : (w : List ℕ) (b : Cell) (m n : ℕ) → cellOf w ≡ accepted b → offsetDigit m ≡ true → offsetDigit n ≡ true → Formed (referenceCode w m n)
@@ -90,34 +85,35 @@ abbrev pub parts : {w : List ℕ} → Formed w → Aim
 parts f = record { from = f .from; m = f .m; n = f .n }
 
 pub read-formed : (w : List ℕ) (f : Formed w) → aimOf w ≡ accepted (parts f)
-unfolding aimed
+unfolding offsetIn
 read-formed w f =
     let lm : f .m ≤ 16 = digit-fits (f .m) (f .east) in
     let ln : f .n ≤ 16 = digit-fits (f .n) (f .north) in
     ap aimOf (sym (f .form)) ∙ read-behind (f .base) 45 (charOf (f .m)) (charOf (f .n))
     ∙ rw (f .read-base, digit-char (f .m) (omega arith), digit-char (f .n) (omega arith), f .east, f .north) refl
 
--- three characters behind a base that are read
-record Aimed (h m n : ℕ) (x : Answer Cell) (a : Aim) : Type 0 where
-  read-base : x ≡ accepted (a .from)
-  hyphen : h ≡ 45
-  m-is : digitOf m ≡ a .m
-  n-is : digitOf n ≡ a .n
-  east : offsetDigit (a .m) ≡ true
-  north : offsetDigit (a .n) ≡ true
+-- three characters that are read as M and N
+pub record AsOffset (h m n u v : ℕ) : Type 0 where
+  pub hyphen : h ≡ 45
+  pub m-is : digitOf m ≡ u
+  pub n-is : digitOf n ≡ v
+  pub east : offsetDigit u ≡ true
+  pub north : offsetDigit v ≡ true
 
-accepted-inj : {i j : Aim} → _≡_ {A = Answer Aim} (accepted i) (accepted j) → i ≡ j
-accepted-inj e = cc
+pub as-offset : (k h m n : ℕ) (o : ℕ × ℕ) → offsetIn k h m n ≡ accepted o → AsOffset h m n (o .0) (o .1)
+unfolding offsetIn
+as-offset k h m n o e =
+    let p = unless-accepted (eqb h 45) _ _ o e in
+    let q = unless-accepted (offsetDigit (digitOf m)) _ _ o (p .1) in
+    let r = unless-accepted (offsetDigit (digitOf n)) _ _ o (q .1) in
+    subst (λ (x : ℕ × ℕ). AsOffset h m n (x .0) (x .1)) (accepted-inj (r .1))
+    (record { hyphen = eqb-true h 45 (p .0); m-is = refl; n-is = refl; east = q .0; north = r .0 })
 
-aimed-of : (k h m n : ℕ) (x : Answer Cell) (a : Aim) → aimed k h m n x ≡ accepted a → Aimed h m n x a
-unfolding aimed
-aimed-of k h m n (refused q) a e = clash (cc)
-aimed-of k h m n (accepted b) a e =
-    let p = unless-at-ok (eqb h 45) _ _ a e in
-    let q = unless-at-ok (offsetDigit (digitOf m)) _ _ a (p .1) in
-    let r = unless-at-ok (offsetDigit (digitOf n)) _ _ a (q .1) in
-    subst (Aimed h m n (accepted b)) (accepted-inj (r .1))
-    (record { read-base = refl; hyphen = eqb-true h 45 (p .0); m-is = refl; n-is = refl; east = q .0; north = r .0 })
+aimed-of : (k h m n : ℕ) (x : Answer Cell) (a : Aim) → aimed k h m n x ≡ accepted a → (x ≡ accepted (a .from)) × AsOffset h m n (a .m) (a .n)
+aimed-of k h m n x a e =
+    let b = then-from x _ a e in
+    let o = then-from (offsetIn k h m n) _ a (b .2) in
+    subst (λ (y : Aim). (x ≡ accepted (y .from)) × AsOffset h m n (y .m) (y .n)) (accepted-inj (o .2)) (b .1, as-offset k h m n (o .0) (o .1))
 
 long-enough : (w : List ℕ) (a : Aim) → aimOf w ≡ accepted a → length w - 3 + 3 ≡ length w
 long-enough w a e = go (leb 3 (length w)) refl
@@ -131,7 +127,8 @@ formed-of w a e =
     let k = length w - 3 in
     let x = getD w (k + 1) 0 in
     let y = getD w (k + 2) 0 in
-    let d = aimed-of k (getD w k 0) x y (cellOf (take k w)) a e in
+    let v = aimed-of k (getD w k 0) x y (cellOf (take k w)) a e in
+    let d = v .1 in
     let lm : a .m ≤ 16 = digit-fits _ (d .east) in
     let ln : a .n ≤ 16 = digit-fits _ (d .north) in
     let px : charOf (a .m) ≡ x = ap charOf (sym (d .m-is)) ∙ char-digit x (rw (d .m-is) (omega arith)) in
@@ -142,9 +139,9 @@ formed-of w a e =
         m = a .m;
         n = a .n;
         form = rw (px, py, ← d .hyphen) (three-behind w k (long-enough w a e));
-        read-base = d .read-base;
+        read-base = v .0;
         east = d .east;
         north = d .north;
       },
-      refl,
+      refl {a = a},
     )

@@ -13,44 +13,35 @@ use borrow.Author.Tests.{ltb-true, leb-true, eqb-true, ltb-false, eqb-false, lt-
 use Rattle.grid.specs.declared.Cell.{Cell}
 use Rattle.grid.specs.declared.Refusal.{Refusal}
 use Rattle.grid.specs.Units.{POLAR, index}
-use Rattle.grid.specs.Answers.{Answer, accepted, refused, refusal, wrongLength, wrongCharacter}
+use Rattle.grid.specs.Answers.{Answer, accepted, refused, refusal, about, unless, andThen, wrongLength, wrongCharacter}
 use Rattle.grid.specs.Places.{among, Accepted, FirstBad, Places}
 use Rattle.grid.specs.Splits.{planeLengths}
-use Rattle.grid.specs.Laying.{Text, refuse, text, unless}
 use Rattle.grid.specs.Plane.{codeOf, cellOf}
+use Rattle.grid.proofs.Answers.{then-accepted, then-refused, unless-accepted}
 use Rattle.grid.proofs.Cut.{clash, and-true}
 use Rattle.grid.proofs.Refusing.{places-of}
 use Rattle.grid.proofs.Theorems.{plane-places}
 use Rattle.reference.specs.Offsets.{offsetDigit}
-use Rattle.reference.specs.Text.{fit, eastSpan, northSpan, referenceCode, ofSecond, spelled, spanned, referenceText, targetSquare, targetOf, Aim, aimOf, referenceLengths, ledTo, targetText}
+use Rattle.reference.specs.Text.{fit, eastSpan, northSpan, referenceCode, spelled, spanned, referenceText, targetSquare, Aim, targetOf, aimOf, referenceLengths, targetText}
 use Rattle.reference.specs.Meaning.{southAfter, OffsetTo, Formed, Leads, CodesOf, WhyWritten, base-six, base-seven, target-six, target-seven, eight, nine, ten, an-offset, WhyRead, six, seven, not-fit, twelve, target}
-use Rattle.reference.proofs.Corners.{fit-of}
 use Rattle.reference.proofs.Spelling.{formed, formed-start, parts, read-formed, formed-of}
 use Rattle.reference.proofs.Places.{less-three, answered, some-code}
-use Rattle.reference.proofs.Leading.{unless-text, related-of, east-leads, north-leads, leads-text, reached, reached-spanned, taken, related-read, leads-of, of-leads, by-latitude, by-offset, found-offset, leads-by}
+use Rattle.reference.proofs.Leading.{related-of, reached, reached-spanned, taken, related-read, leads-of, of-leads, by-latitude, by-offset, found-offset, leads-by}
 
 -- ---- 1: what the writer writes the reader reads back as the target, byte for byte
 
-pub written-read : (base goal w : List ℕ) → referenceText base goal ≡ text w → targetText w ≡ text goal
-unfolding referenceText targetText
+pub written-read : (base goal w : List ℕ) → referenceText base goal ≡ accepted w → targetText w ≡ accepted goal
+unfolding referenceText
 written-read base goal w e =
     let r = related-of base (cellOf base) (cellOf goal) w e in
-    let b = r .base in
-    let t = r .target in
     let s = r .spans in
-    let fb = fit-of base b (r .read-base) (s .fit-base) in
-    let ft = fit-of goal t (r .read-target) (s .fit-target) in
-    let he : eastSpan b t ≤ 16 = s .east in
-    let hn : northSpan b t ≤ 16 = s .north in
-    let a = east-leads b t fb ft (s .level) he hn in
-    let c = north-leads b t fb ft (s .level) he hn in
+    let o = found-offset base goal (r .base) (r .target) (r .read-base) (r .read-target) (s .fit-base) (s .fit-target) (s .level) (s .east) (s .north) in
     ap targetText (sym (s .same))
-    ∙ ap ledTo (read-formed _ (formed base b (eastSpan b t) (northSpan b t) (r .read-base) (a .0) (c .0)))
-    ∙ leads-text b t fb ft (s .level) he hn goal (r .read-target)
+    ∙ of-leads _ goal (leads-by base goal (r .base) (r .target) (r .read-base) (r .read-target) (s .fit-base) (s .fit-target) (s .level) o)
 
 -- ---- 2: a reference code that the reader accepts is the one that the writer gives for its base and its target
 
-pub read-written : (w goal : List ℕ) → targetText w ≡ text goal → referenceText (take (length w - 3) w) goal ≡ text w
+pub read-written : (w goal : List ℕ) → targetText w ≡ accepted goal → referenceText (take (length w - 3) w) goal ≡ accepted w
 unfolding referenceText
 read-written w goal e =
     let a = taken w goal e in
@@ -59,51 +50,51 @@ read-written w goal e =
     ap (λ (x : List ℕ). referenceText x goal) (a .starts)
     ∙ related-read (f .base) (cellOf (f .base)) (cellOf goal) (f .from) (t .cell) (f .read-base) (ap cellOf (sym (a .same)) ∙ t .read)
     ∙ reached-spanned (f .from) (f .m) (f .n) (a .fits) (f .east) (f .north) (a .away) (f .base)
-    ∙ ap text (f .form)
+    ∙ ap accepted (f .form)
 
 -- ---- 3: the reader accepts a code exactly when it is a base, a hyphen and an offset that leads to a target; and that is what it writes
 
-pub leads-exactly-when : (w goal : List ℕ) → (targetText w ≡ text goal) ↔ Leads w goal
+pub leads-exactly-when : (w goal : List ℕ) → (targetText w ≡ accepted goal) ↔ Leads w goal
 leads-exactly-when w goal = (leads-of w goal, of-leads w goal)
 
 -- ---- 4: a base and an offset have a target exactly when the latitude that they lead to is ordinary, and get refusal 12 exactly otherwise
 
-unless-refused : (q : Bool) (k : ℕ) (w : List ℕ) (r : Refusal) → unless q k (text w) ≡ refuse r → q ≡ false
+unless-refused : (q : Bool) (k : Refusal) (w : List ℕ) (r : Refusal) → unless q k (accepted w) ≡ refused r → q ≡ false
 unless-refused true k w r e = clash (cc)
 unless-refused false k w r e = refl
 
 module _ (base : List ℕ) (b : Cell) (m n : ℕ) (e : cellOf base ≡ accepted b) (f : fit b ≡ true) (hm : offsetDigit m ≡ true) (hn : offsetDigit n ≡ true) where
-  pub target-exactly-when : ((goal : List ℕ) × (targetText (referenceCode base m n) ≡ text goal)) ↔ (index (southAfter b n) < POLAR)
+  pub target-exactly-when : ((goal : List ℕ) × (targetText (referenceCode base m n) ≡ accepted goal)) ↔ (index (southAfter b n) < POLAR)
   target-exactly-when =
       let y = by-latitude base b m n e f hm hn in (
-        λ g. ltb-true (index (southAfter b n)) POLAR (unless-text (ltb (index (southAfter b n)) POLAR) 12 _ (g .0) (sym y ∙ g .1) .0),
+        λ g. ltb-true (index (southAfter b n)) POLAR (unless-accepted (ltb (index (southAfter b n)) POLAR) _ _ (g .0) (sym y ∙ g .1) .0),
         λ h. (codeOf (b .level) (targetSquare b m n), y ∙ rw (lt-ltb (index (southAfter b n)) POLAR h) refl),
       )
 
-  pub refused-exactly-when : (targetText (referenceCode base m n) ≡ refuse (refusal 12 0)) ↔ (POLAR ≤ index (southAfter b n))
+  pub refused-exactly-when : (targetText (referenceCode base m n) ≡ refused (refusal 12 0)) ↔ (POLAR ≤ index (southAfter b n))
   refused-exactly-when =
       let y = by-latitude base b m n e f hm hn in (
-        λ g. ltb-false (index (southAfter b n)) POLAR (unless-refused (ltb (index (southAfter b n)) POLAR) 12 (codeOf (b .level) (targetSquare b m n)) (refusal 12 0) (sym y ∙ g)),
+        λ g. ltb-false (index (southAfter b n)) POLAR (unless-refused (ltb (index (southAfter b n)) POLAR) _ _ _ (sym y ∙ g)),
         λ h. y ∙ rw (le-ltb (index (southAfter b n)) POLAR h) refl,
       )
 
 -- ---- 5: a base and a target that fit and have one level: any offset that leads there is the one written, and 10 is given exactly when none does
 
 module _ (base goal : List ℕ) (b t : Cell) (eb : cellOf base ≡ accepted b) (et : cellOf goal ≡ accepted t) (f : fit b ≡ true) (g : fit t ≡ true) (l : b .level ≡ t .level) where
-  pub offset-written : (o : OffsetTo b t) → referenceText base goal ≡ text (referenceCode base (o .m) (o .n))
+  pub offset-written : (o : OffsetTo b t) → referenceText base goal ≡ accepted (referenceCode base (o .m) (o .n))
   offset-written o =
       let v = leads-by base goal b t eb et f g l o in
       ap (λ (x : List ℕ). referenceText x goal) (sym (formed-start _ (v .formed))) ∙ read-written _ goal (of-leads _ goal v)
 
-  pub beyond-exactly-when : (referenceText base goal ≡ refuse (refusal 10 0)) ↔ (OffsetTo b t → ⊥)
+  pub beyond-exactly-when : (referenceText base goal ≡ refused (refusal 10 0)) ↔ (OffsetTo b t → ⊥)
   unfolding spelled
   beyond-exactly-when = (
-    λ e o. clash (let z : _≡_ {A = Text} (text (referenceCode base (o .m) (o .n))) (refuse (refusal 10 0)) = sym (offset-written o) ∙ e in cc),
+    λ e o. clash (let z : _≡_ {A = Answer (List ℕ)} (accepted (referenceCode base (o .m) (o .n))) (refused (refusal 10 0)) = sym (offset-written o) ∙ e in cc),
     λ none. by-offset base goal b t eb et f g l ∙ go (leb (eastSpan b t) 16 && leb (northSpan b t) 16) refl none,
   )
     where
       go : (q : Bool) → (leb (eastSpan b t) 16 && leb (northSpan b t) 16) ≡ q → (OffsetTo b t → ⊥)
-          → unless q 10 (text (referenceCode base (eastSpan b t) (northSpan b t))) ≡ refuse (refusal 10 0)
+          → unless q (refusal 10 0) (accepted (referenceCode base (eastSpan b t) (northSpan b t))) ≡ refused (refusal 10 0)
       go true e none =
           let o = and-true (leb (eastSpan b t) 16) (leb (northSpan b t) 16) e in
           absurd (none (found-offset base goal b t eb et f g l (leb-true (eastSpan b t) 16 (o .0)) (leb-true (northSpan b t) 16 (o .1))))
@@ -120,32 +111,32 @@ pub reference-places : Places aimOf referenceLengths
 reference-places = places-of aimOf referenceLengths answered some-code
 
 -- 8 and 12 come after them
-aim-refused : (w : List ℕ) (r : Refusal) → r .number < 8 → (targetText w ≡ refuse r) ↔ (aimOf w ≡ refused r)
+aim-refused : (w : List ℕ) (r : Refusal) → r .number < 8 → (targetText w ≡ refused r) ↔ (aimOf w ≡ refused r)
 unfolding targetText targetOf
-aim-refused w r few = (λ e. go (aimOf w) e, λ e. ap ledTo e)
+aim-refused w r few = (λ e. go (aimOf w) e, λ e. sym (then-refused targetOf e))
   where
-    number : Text → ℕ
-    number (refuse r) = r .number
-    number (text w) = 0
+    number : Answer (List ℕ) → ℕ
+    number (refused r) = r .number
+    number (accepted w) = 0
 
-    later : (p q : Bool) (v : List ℕ) → unless p 8 (unless q 12 (text v)) ≡ refuse r → ⊥
+    later : (p q : Bool) (v : List ℕ) → unless p (refusal 8 0) (unless q (refusal 12 0) (accepted v)) ≡ refused r → ⊥
     later true true v e = clash (cc)
     later true false v e = let z : 12 ≡ r .number = ap number e in omega arith
     later false q v e = let z : 8 ≡ r .number = ap number e in omega arith
 
-    go : (x : Answer Aim) → ledTo x ≡ refuse r → x ≡ refused r
+    go : (x : Answer Aim) → andThen x targetOf ≡ refused r → x ≡ refused r
     go (refused q) e = cc
     go (accepted a) e = absurd (later (fit (a .from)) (ltb (index (targetSquare (a .from) (a .m) (a .n) .latitude)) POLAR) _ e)
 
 -- the reader gives 6 exactly when the total less 3 is no plane length
-pub six-exactly-when : (w : List ℕ) → (targetText w ≡ refuse wrongLength) ↔ (among (length w - 3) planeLengths ≡ false)
+pub six-exactly-when : (w : List ℕ) → (targetText w ≡ refused wrongLength) ↔ (among (length w - 3) planeLengths ≡ false)
 six-exactly-when w =
     let a = aim-refused w wrongLength (omega arith) in
     let b = reference-places .six-exactly-when w in
     (λ e. sym (less-three (length w)) ∙ b .0 (a .0 e), λ h. a .1 (b .1 (less-three (length w) ∙ h)))
 
 -- and 7 at p exactly when p is the first place at which no reference code of that length, wherever it leads, goes on
-pub seven-exactly-when : (w : List ℕ) (p : ℕ) → (targetText w ≡ refuse (wrongCharacter p)) ↔ FirstBad aimOf w p
+pub seven-exactly-when : (w : List ℕ) (p : ℕ) → (targetText w ≡ refused (wrongCharacter p)) ↔ FirstBad aimOf w p
 seven-exactly-when w p =
     let a = aim-refused w (wrongCharacter p) (omega arith) in
     let b = reference-places .seven-exactly-when w p in
@@ -159,15 +150,15 @@ module _ (base goal : List ℕ) where
   unfolding referenceText
   spans b t c = related-read base (cellOf base) (cellOf goal) b t (c .base-is) (c .target-is)
 
-  not-both : (b t : Cell) → CodesOf base goal b t → (fit b && fit t) ≡ false → referenceText base goal ≡ refuse (refusal 8 0)
+  not-both : (b t : Cell) → CodesOf base goal b t → (fit b && fit t) ≡ false → referenceText base goal ≡ refused (refusal 8 0)
   unfolding spanned
   not-both b t c p = spans b t c ∙ rw p refl
 
-  not-one-level : (b t : Cell) → CodesOf base goal b t → (fit b && fit t) ≡ true → (b .level ≡ t .level → ⊥) → referenceText base goal ≡ refuse (refusal 9 0)
+  not-one-level : (b t : Cell) → CodesOf base goal b t → (fit b && fit t) ≡ true → (b .level ≡ t .level → ⊥) → referenceText base goal ≡ refused (refusal 9 0)
   unfolding spanned
   not-one-level b t c p d = spans b t c ∙ rw (p, ne-eqb (b .level) (t .level) d) refl
 
-  because : {t : Text} → referenceText base goal ≡ t → WhyWritten base goal t → WhyWritten base goal (referenceText base goal)
+  because : {t : Answer (List ℕ)} → referenceText base goal ≡ t → WhyWritten base goal t → WhyWritten base goal (referenceText base goal)
   because e y = subst (WhyWritten base goal) (sym e) y
 
   -- what is answered to the codes of two cells has its reason
@@ -189,7 +180,7 @@ module _ (base goal : List ℕ) where
 
           near : (r : Bool) → (leb (eastSpan b t) 16 && leb (northSpan b t) 16) ≡ r → WhyWritten base goal (referenceText base goal)
           near false e =
-              let z : referenceText base goal ≡ refuse (refusal 10 0) = by-offset base goal b t (c .base-is) (c .target-is) (x .0) (x .1) l ∙ rw e refl in
+              let z : referenceText base goal ≡ refused (refusal 10 0) = by-offset base goal b t (c .base-is) (c .target-is) (x .0) (x .1) l ∙ rw e refl in
               because z (ten c p l (beyond-exactly-when base goal b t (c .base-is) (c .target-is) (x .0) (x .1) l .0 z))
           near true e =
               let y = and-true (leb (eastSpan b t) 16) (leb (northSpan b t) 16) e in
@@ -197,11 +188,11 @@ module _ (base goal : List ℕ) where
               because (offset-written base goal b t (c .base-is) (c .target-is) (x .0) (x .1) l o) (an-offset c p o)
 
   -- the base's refusal, or the target's
-  base-refused : {r : Refusal} → cellOf base ≡ refused r → referenceText base goal ≡ refuse r
+  base-refused : {r : Refusal} → cellOf base ≡ refused r → referenceText base goal ≡ refused r
   unfolding referenceText
   base-refused e = rw e refl
 
-  target-refused : {r : Refusal} → Accepted cellOf base → cellOf goal ≡ refused r → referenceText base goal ≡ refuse (ofSecond r)
+  target-refused : {r : Refusal} → Accepted cellOf base → cellOf goal ≡ refused r → referenceText base goal ≡ refused (about 2 r)
   unfolding referenceText
   target-refused b e = rw (b .1, e) refl
 
@@ -217,7 +208,7 @@ module _ (base goal : List ℕ) where
   ]
 
   -- and what has its reason is answered
-  so-written : (t : Text) → WhyWritten base goal t → referenceText base goal ≡ t
+  so-written : (t : Answer (List ℕ)) → WhyWritten base goal t → referenceText base goal ≡ t
   so-written _ (base-six n) = base-refused (plane-places .six-exactly-when base .1 n)
   so-written _ (base-seven {p} b) = base-refused (plane-places .seven-exactly-when base p .1 b)
   so-written _ (target-six a n) = target-refused a (plane-places .six-exactly-when goal .1 n)
@@ -232,16 +223,16 @@ module _ (base goal : List ℕ) where
       offset-written base goal b t (c .base-is) (c .target-is) (x .0) (x .1) (sym (o .moves .level)) o
 
   -- the writer's answers
-  pub written-exactly-when : (t : Text) → (referenceText base goal ≡ t) ↔ WhyWritten base goal t
+  pub written-exactly-when : (t : Answer (List ℕ)) → (referenceText base goal ≡ t) ↔ WhyWritten base goal t
   written-exactly-when t = (λ e. subst (WhyWritten base goal) e why-written, so-written t)
 
 module _ (w : List ℕ) where
-  leads-pole : (f : Formed w) → fit (f .from) ≡ true → POLAR ≤ index (southAfter (f .from) (f .n)) → targetText w ≡ refuse (refusal 12 0)
+  leads-pole : (f : Formed w) → fit (f .from) ≡ true → POLAR ≤ index (southAfter (f .from) (f .n)) → targetText w ≡ refused (refusal 12 0)
   leads-pole f p h = ap targetText (sym (f .form)) ∙ refused-exactly-when (f .base) (f .from) (f .m) (f .n) (f .read-base) p (f .east) (f .north) .1 h
 
-  base-unfit : (f : Formed w) → fit (f .from) ≡ false → targetText w ≡ refuse (refusal 8 0)
+  base-unfit : (f : Formed w) → fit (f .from) ≡ false → targetText w ≡ refused (refusal 8 0)
   unfolding targetText targetOf
-  base-unfit f p = ap ledTo (read-formed w f) ∙ rw p refl
+  base-unfit f p = sym (then-accepted targetOf (read-formed w f)) ∙ rw p refl
 
   why-formed : Formed w → WhyRead w (targetText w)
   why-formed f = go (fit (f .from)) refl (ltb (index (southAfter (f .from) (f .n))) POLAR) refl
@@ -253,18 +244,18 @@ module _ (w : List ℕ) where
           subst (WhyRead w) (sym (leads-pole f p h)) (twelve f p h)
       go true p true d =
           let g = target-exactly-when (f .base) (f .from) (f .m) (f .n) (f .read-base) p (f .east) (f .north) .1 (ltb-true (index (southAfter (f .from) (f .n))) POLAR d) in
-          let e : targetText w ≡ text (g .0) = ap targetText (sym (f .form)) ∙ g .1 in
+          let e : targetText w ≡ accepted (g .0) = ap targetText (sym (f .form)) ∙ g .1 in
           subst (WhyRead w) (sym e) (target (leads-of w (g .0) e))
 
   why-read : WhyRead w (targetText w)
   unfolding targetText
   why-read = elim (reference-places .accepted-six-or-seven w) [
     | inl a ↦ why-formed (formed-of w (a .0) (a .1) .0)
-    | inr (inl e) ↦ (let z = ap ledTo e in subst (WhyRead w) (sym z) (six (six-exactly-when w .0 z)))
-    | inr (inr e) ↦ (let z = ap ledTo (e .1) in subst (WhyRead w) (sym z) (seven (seven-exactly-when w (e .0) .0 z)))
+    | inr (inl e) ↦ (let z = then-refused targetOf e in subst (WhyRead w) z (six (six-exactly-when w .0 (sym z))))
+    | inr (inr e) ↦ (let z = then-refused targetOf (e .1) in subst (WhyRead w) z (seven (seven-exactly-when w (e .0) .0 (sym z))))
   ]
 
-  so-read : (t : Text) → WhyRead w t → targetText w ≡ t
+  so-read : (t : Answer (List ℕ)) → WhyRead w t → targetText w ≡ t
   so-read _ (six n) = six-exactly-when w .1 n
   so-read _ (seven {p} b) = seven-exactly-when w p .1 b
   so-read _ (not-fit f p) = base-unfit f p
@@ -272,5 +263,5 @@ module _ (w : List ℕ) where
   so-read _ (target {goal} l) = of-leads w goal l
 
   -- the reader's answers
-  pub read-exactly-when : (t : Text) → (targetText w ≡ t) ↔ WhyRead w t
+  pub read-exactly-when : (t : Answer (List ℕ)) → (targetText w ≡ t) ↔ WhyRead w t
   read-exactly-when t = (λ e. subst (WhyRead w) e why-read, so-read t)

@@ -9,14 +9,13 @@ use lib.IntN.{ℤ, pos, _+ℤ_, _*ℤ_}
 use lib.ListN.{length}
 use Rattle.grid.specs.declared.Cell.{Cell}
 use Rattle.grid.specs.Units.{POLAR, index}
-use Rattle.grid.specs.Answers.{accepted, refusal, wrongLength, wrongCharacter}
+use Rattle.grid.specs.Answers.{Answer, accepted, refused, refusal, about, wrongLength, wrongCharacter}
 use Rattle.grid.specs.Cells.{around}
 use Rattle.grid.specs.Places.{among, Accepted, FirstBad}
 use Rattle.grid.specs.Splits.{planeLengths}
-use Rattle.grid.specs.Laying.{Text, refuse, text}
 use Rattle.grid.specs.Plane.{cellOf}
 use Rattle.reference.specs.Offsets.{offsetDigit, offset}
-use Rattle.reference.specs.Text.{fit, referenceCode, ofSecond, aimOf}
+use Rattle.reference.specs.Text.{fit, referenceCode, aimOf}
 
 -- ---- where an offset leads
 
@@ -69,33 +68,34 @@ pub record CodesOf (base goal : List ℕ) (b t : Cell) : Type 0 where
   pub target-is : cellOf goal ≡ accepted t
 
 -- the writer's answers to a base's code and a target's
-pub data WhyWritten (base goal : List ℕ) : Text → Type 0 where
+pub data WhyWritten (base goal : List ℕ) : Answer (List ℕ) → Type 0 where
   -- 6 and 7 of the base: its length is no plane code's; p is the first place at which no plane code of its length goes on
-  base-six : among (length base) planeLengths ≡ false → WhyWritten base goal (refuse wrongLength)
-  base-seven : {p : ℕ} → FirstBad cellOf base p → WhyWritten base goal (refuse (wrongCharacter p))
+  base-six : among (length base) planeLengths ≡ false → WhyWritten base goal (refused wrongLength)
+  base-seven : {p : ℕ} → FirstBad cellOf base p → WhyWritten base goal (refused (wrongCharacter p))
   -- 6 and 7 of the target, with ordinal 2: the base is accepted
-  target-six : Accepted cellOf base → among (length goal) planeLengths ≡ false → WhyWritten base goal (refuse (ofSecond wrongLength))
-  target-seven : {p : ℕ} → Accepted cellOf base → FirstBad cellOf goal p → WhyWritten base goal (refuse (ofSecond (wrongCharacter p)))
+  target-six : Accepted cellOf base → among (length goal) planeLengths ≡ false → WhyWritten base goal (refused (about 2 wrongLength))
+  target-seven : {p : ℕ} → Accepted cellOf base → FirstBad cellOf goal p → WhyWritten base goal (refused (about 2 (wrongCharacter p)))
   -- 8: base or target is below level 5 or polar
-  eight : {b t : Cell} → CodesOf base goal b t → (fit b && fit t) ≡ false → WhyWritten base goal (refuse (refusal 8 0))
+  eight : {b t : Cell} → CodesOf base goal b t → (fit b && fit t) ≡ false → WhyWritten base goal (refused (refusal 8 0))
   -- 9: neither is, and their levels differ
-  nine : {b t : Cell} → CodesOf base goal b t → (fit b && fit t) ≡ true → (b .level ≡ t .level → ⊥) → WhyWritten base goal (refuse (refusal 9 0))
+  nine : {b t : Cell} → CodesOf base goal b t → (fit b && fit t) ≡ true → (b .level ≡ t .level → ⊥)
+      → WhyWritten base goal (refused (refusal 9 0))
   -- 10: nor do they differ, and no offset leads from the base to the target
   ten : {b t : Cell} → CodesOf base goal b t → (fit b && fit t) ≡ true → b .level ≡ t .level → (OffsetTo b t → ⊥)
-      → WhyWritten base goal (refuse (refusal 10 0))
+      → WhyWritten base goal (refused (refusal 10 0))
   -- the reference code: an offset leads there
   an-offset : {b t : Cell} → CodesOf base goal b t → (fit b && fit t) ≡ true → (o : OffsetTo b t)
-      → WhyWritten base goal (text (referenceCode base (o .m) (o .n)))
+      → WhyWritten base goal (accepted (referenceCode base (o .m) (o .n)))
 
 -- the reader's answers to a reference code
-pub data WhyRead (w : List ℕ) : Text → Type 0 where
+pub data WhyRead (w : List ℕ) : Answer (List ℕ) → Type 0 where
   -- 6: the total less 3 is no plane length
-  six : among (length w - 3) planeLengths ≡ false → WhyRead w (refuse wrongLength)
+  six : among (length w - 3) planeLengths ≡ false → WhyRead w (refused wrongLength)
   -- 7: p is the first place at which no reference code of that length, wherever it leads, goes on
-  seven : {p : ℕ} → FirstBad aimOf w p → WhyRead w (refuse (wrongCharacter p))
+  seven : {p : ℕ} → FirstBad aimOf w p → WhyRead w (refused (wrongCharacter p))
   -- 8: the base is below level 5 or polar
-  not-fit : (f : Formed w) → fit (f .from) ≡ false → WhyRead w (refuse (refusal 8 0))
+  not-fit : (f : Formed w) → fit (f .from) ≡ false → WhyRead w (refused (refusal 8 0))
   -- 12: the base is neither, and the code leads to 88° or nearer a pole
-  twelve : (f : Formed w) → fit (f .from) ≡ true → POLAR ≤ index (southAfter (f .from) (f .n)) → WhyRead w (refuse (refusal 12 0))
+  twelve : (f : Formed w) → fit (f .from) ≡ true → POLAR ≤ index (southAfter (f .from) (f .n)) → WhyRead w (refused (refusal 12 0))
   -- the target's plane code: the code leads there
-  target : {goal : List ℕ} → Leads w goal → WhyRead w (text goal)
+  target : {goal : List ℕ} → Leads w goal → WhyRead w (accepted goal)

@@ -1,16 +1,14 @@
 -- Reference codes (document 01, source 000 clause 7): a plane code, a hyphen, M and N. What the writer and the reader are to write.
 -- Assumes nothing.
-use mathlib.Core.Bool.{Bool, true, false, _&&_}
+use mathlib.Core.Bool.{Bool, _&&_}
 use mathlib.Core.List.{List, [], _∷_, _++_, map}
 use Prim.Native.Nat.{ℕ, _+_, _-_}
 use lib.Dec.{ltb, leb, eqb}
 use lib.ListN.{length, take, getD}
 use Rattle.grid.specs.declared.Cell.{Cell}
-use Rattle.grid.specs.declared.Refusal.{Refusal}
 use Rattle.grid.specs.Units.{POLAR, index, Square}
 use Rattle.grid.specs.Characters.{charOf, digitOf}
-use Rattle.grid.specs.Answers.{Answer, accepted, refused, wrongCharacter}
-use Rattle.grid.specs.Laying.{Text, refuse, text, unless}
+use Rattle.grid.specs.Answers.{Answer, accepted, refused, refusal, about, unless, andThen, wrongCharacter}
 use Rattle.grid.specs.Splits.{planeLengths}
 use Rattle.grid.specs.Plane.{codeOf, cellOf}
 use Rattle.reference.specs.Offsets.{offsetDigit, moved, spanOf}
@@ -37,27 +35,23 @@ northSpan b t = spanOf (b .height) (b .south) (t .south)
 abbrev pub referenceCode : List ℕ → ℕ → ℕ → List ℕ
 referenceCode w m n = w ++ (HYPHEN ∷ charOf m ∷ charOf n ∷ [])
 
--- the same refusal, about the second code
-abbrev pub ofSecond : Refusal → Refusal
-ofSecond r = record { number = r .number; place = r .place; ordinal = 2 }
-
 -- 10, else the reference code: w is the base's code
-unfoldable pub spelled : List ℕ → Cell → Cell → Text
+unfoldable pub spelled : List ℕ → Cell → Cell → Answer (List ℕ)
 spelled w b t =
-    unless (leb (eastSpan b t) 16 && leb (northSpan b t) 16) 10 (text (referenceCode w (eastSpan b t) (northSpan b t)))
+    unless (leb (eastSpan b t) 16 && leb (northSpan b t) 16) (refusal 10 0) (accepted (referenceCode w (eastSpan b t) (northSpan b t)))
 
 -- 8 and 9, else what the offset decides
-unfoldable pub spanned : List ℕ → Cell → Cell → Text
-spanned w b t = unless (fit b && fit t) 8 (unless (eqb (b .level) (t .level)) 9 (spelled w b t))
+unfoldable pub spanned : List ℕ → Cell → Cell → Answer (List ℕ)
+spanned w b t = unless (fit b && fit t) (refusal 8 0) (unless (eqb (b .level) (t .level)) (refusal 9 0) (spelled w b t))
 
--- 6 or 7 of the base, then of the target
-abbrev pub related : List ℕ → Answer Cell → Answer Cell → Text
-related w (refused r) t = refuse r
-related w (accepted b) (refused r) = refuse (ofSecond r)
+-- 6 or 7 of the base, then of the target, which is the second code
+abbrev pub related : List ℕ → Answer Cell → Answer Cell → Answer (List ℕ)
+related w (refused r) t = refused r
+related w (accepted b) (refused r) = refused (about 2 r)
 related w (accepted b) (accepted t) = spanned w b t
 
 -- what the writer is to write: 6, 7 of the base, 6, 7 of the target, 8, 9, 10 in that order, else the reference code
-unfoldable pub referenceText : List ℕ → List ℕ → Text
+unfoldable pub referenceText : List ℕ → List ℕ → Answer (List ℕ)
 referenceText base target = related base (cellOf base) (cellOf target)
 
 -- ---- from reference code to target
@@ -66,30 +60,29 @@ referenceText base target = related base (cellOf base) (cellOf target)
 abbrev pub targetSquare : Cell → ℕ → ℕ → Square
 targetSquare b m n = record { longitude = moved (b .width) m (b .west); latitude = moved (b .height) n (b .south) }
 
--- 8 and 12, else the target's plane code
-unfoldable pub targetOf : Cell → ℕ → ℕ → Text
-targetOf b m n =
-    unless (fit b) 8
-    (unless (ltb (index (targetSquare b m n .latitude)) POLAR) 12 (text (codeOf (b .level) (targetSquare b m n))))
-
 -- a base's cell, M and N
 pub record Aim : Type 0 where
   pub from : Cell
   pub m : ℕ
   pub n : ℕ
 
--- 7 where the test of the character at place p fails, else go on
-abbrev pub unlessAt : Bool → ℕ → Answer Aim → Answer Aim
-unlessAt true p a = a
-unlessAt false p a = refused (wrongCharacter p)
+-- 8 and 12, else the target's plane code
+unfoldable pub targetOf : Aim → Answer (List ℕ)
+targetOf a =
+    let s = targetSquare (a .from) (a .m) (a .n) in
+    unless (fit (a .from)) (refusal 8 0)
+    (unless (ltb (index (s .latitude)) POLAR) (refusal 12 0) (accepted (codeOf (a .from .level) s)))
 
--- the base, k bytes long, is read; then come the hyphen and two offset digits, as the three characters h, m and n
-unfoldable pub aimed : ℕ → ℕ → ℕ → ℕ → Answer Cell → Answer Aim
-aimed k h m n (refused r) = refused r
-aimed k h m n (accepted b) =
-    unlessAt (eqb h HYPHEN) k
-    (unlessAt (offsetDigit (digitOf m)) (k + 1)
-    (unlessAt (offsetDigit (digitOf n)) (k + 2) (accepted (record { from = b; m = digitOf m; n = digitOf n }))))
+-- M and N by themselves, with no base: the hyphen at place k and two offset digits, as the three characters h, m and n; 7 at the first that is wrong
+unfoldable pub offsetIn : ℕ → ℕ → ℕ → ℕ → Answer (ℕ × ℕ)
+offsetIn k h m n =
+    unless (eqb h HYPHEN) (wrongCharacter k)
+    (unless (offsetDigit (digitOf m)) (wrongCharacter (k + 1))
+    (unless (offsetDigit (digitOf n)) (wrongCharacter (k + 2)) (accepted (digitOf m, digitOf n))))
+
+-- the base, k bytes long, is read; then the hyphen, M and N behind it
+abbrev pub aimed : ℕ → ℕ → ℕ → ℕ → Answer Cell → Answer Aim
+aimed k h m n base = andThen base (λ b. andThen (offsetIn k h m n) (λ o. accepted (record { from = b; m = o .0; n = o .1 })))
 
 -- what the base's length k makes of a reference code
 abbrev pub aimedAt : List ℕ → ℕ → Answer Aim
@@ -103,11 +96,6 @@ aimOf w = aimedAt w (length w - 3)
 abbrev pub referenceLengths : List ℕ
 referenceLengths = map (λ k. k + 3) planeLengths
 
--- 6 or 7, else what base, M and N lead to
-abbrev pub ledTo : Answer Aim → Text
-ledTo (refused r) = refuse r
-ledTo (accepted a) = targetOf (a .from) (a .m) (a .n)
-
 -- what the reader is to write: 6, 7, 8, 12 in that order, else the target's plane code
-unfoldable pub targetText : List ℕ → Text
-targetText w = ledTo (aimOf w)
+unfoldable pub targetText : List ℕ → Answer (List ℕ)
+targetText w = andThen (aimOf w) targetOf

@@ -10,13 +10,12 @@ ghost use lib.Seq.{sets};
 ghost use Rattle.grid.specs.Units.{TURN, index};
 ghost use Rattle.grid.specs.inner.Roads.{squareOf};
 ghost use Rattle.grid.specs.Cells.{around};
-ghost use Rattle.grid.specs.Answers.{accepted, wrongCharacter, planeRead};
-ghost use Rattle.grid.specs.Laying.{text, laid, written};
+ghost use Rattle.grid.specs.Answers.{accepted, andThen, planeRead};
+ghost use Rattle.grid.specs.Laying.{laid, written};
 ghost use Rattle.grid.specs.Plane.{longitudeAt};
-ghost use Rattle.plane.specs.inner.Asking.{askedText, Fitting};
 ghost use Rattle.reference.specs.Offsets.{offsetDigit, movedTo, between, spanIn, spanOf};
-ghost use Rattle.reference.specs.Text.{fit, referenceCode, ofSecond, spelled, spanned, related, referenceText, targetSquare, targetOf, aimed, ledTo, targetText};
-ghost use Rattle.reference.specs.inner.Parts.{offsetText, Small, Known, AsRead, Steps};
+ghost use Rattle.reference.specs.Text.{fit, referenceCode, spelled, spanned, related, referenceText, targetSquare, targetOf, offsetIn, aimed, targetText};
+ghost use Rattle.reference.specs.inner.Parts.{offsetAnswer, offsetText, Small, goalText, Layable, Known, AsRead, Steps};
 use grid::Cell;
 use grid::HALF;
 use grid::POLAR;
@@ -25,7 +24,6 @@ use grid::PlaneRead;
 use grid::Refusal;
 use grid::TURN;
 use grid::Written;
-use plane::Asked;
 
 // The last remainder by a full turn.
 const LAST: u32 = TURN - 1;
@@ -33,6 +31,12 @@ const LAST: u32 = TURN - 1;
 // M and N as digits, or why there are none.
 enum Offset {
     By(u32, u32),
+    Refused(Refusal),
+}
+
+// Where a reference code leads: the target's level and the place of its corner, or why it leads nowhere.
+enum Goal {
+    At(u32, Place),
     Refused(Refusal),
 }
 
@@ -107,11 +111,11 @@ fn offset_of(b: Cell, t: Cell) -> Offset
 {
     let m = span(b.width, b.west, t.west);
     if 16 < m {
-        return Offset::Refused(plane::refuse(10));
+        return Offset::Refused(grid::refuse(10));
     }
     let n = span(b.height, b.south, t.south);
     if 16 < n {
-        return Offset::Refused(plane::refuse(10));
+        return Offset::Refused(grid::refuse(10));
     }
     Offset::By(m, n)
 }
@@ -125,20 +129,9 @@ fn spans(b: Cell, t: Cell) -> Offset
         if b.level == t.level {
             return offset_of(b, t);
         }
-        return Offset::Refused(plane::refuse(9));
+        return Offset::Refused(grid::refuse(9));
     }
-    Offset::Refused(plane::refuse(8))
-}
-
-// The same refusal, about the second code.
-fn second(r: Refusal) -> Refusal
-    ensures { λ q. ⌜ q ≡ ofSecond r ⌝ }
-{
-    Refusal {
-        number: r.number,
-        place: r.place,
-        ordinal: 2,
-    }
+    Offset::Refused(grid::refuse(8))
 }
 
 // The target's 6 or 7, else what lies between the two.
@@ -148,7 +141,7 @@ fn spans_to(b: Cell, t: PlaneRead) -> Offset
 {
     match t {
         PlaneRead::Found(c) => spans(b, c),
-        PlaneRead::Refused(r) => Offset::Refused(second(r)),
+        PlaneRead::Refused(r) => Offset::Refused(grid::about(2, r)),
     }
 }
 
@@ -229,58 +222,58 @@ fn landed(b: Cell, m: u32, n: u32) -> Place
 }
 
 // Refusals 8 and 12, else the target's level and place.
-fn target_of(b: Cell, m: u32, n: u32) -> Asked
+fn target_of(b: Cell, m: u32, n: u32) -> Goal
     requires { ⌜ Known b × (offsetDigit m ≡ true) × (offsetDigit n ≡ true) ⌝ }
-    ensures { λ r. ⌜ (askedText r ≡ targetOf b m n) × Fitting r ⌝ }
+    ensures { λ r. ⌜ (goalText r ≡ targetOf (record { from = b; m = m; n = n })) × Layable r ⌝ }
 {
     if fits(b) {
         let p = landed(b, m, n);
         if p.y < POLAR {
-            return Asked::At(b.level, p);
+            return Goal::At(b.level, p);
         }
-        return Asked::Refused(plane::refuse(12));
+        return Goal::Refused(grid::refuse(12));
     }
-    Asked::Refused(plane::refuse(8))
+    Goal::Refused(grid::refuse(8))
 }
 
-// The character at a place is not allowed there.
-fn wrong(place: usize) -> Refusal
-    ensures { λ r. ⌜ r ≡ wrongCharacter place ⌝ }
-{
-    Refusal {
-        number: 7,
-        place: place,
-        ordinal: 1,
-    }
-}
-
-// The hyphen at place k, M and N: refusal 7, else what they lead to.
-fn offset_from(b: Cell, k: usize, h: u8, m: u8, n: u8) -> Asked
-    requires { ⌜ Known b × (k < 18446744073709551613) ⌝ }
-    ensures { λ r. ⌜ (askedText r ≡ ledTo (aimed k h m n (accepted b))) × Fitting r ⌝ }
+// The hyphen at place k, M and N: refusal 7, else the two digits. They are read by themselves: a base is not needed for it.
+fn offset_in(k: usize, h: u8, m: u8, n: u8) -> Offset
+    requires { ⌜ k < 18446744073709551613 ⌝ }
+    ensures { λ r. ⌜ offsetAnswer r ≡ offsetIn k h m n ⌝ }
 {
     let u = grid::digit(m);
     let v = grid::digit(n);
     if h != b'-' {
-        return Asked::Refused(wrong(k));
+        return Offset::Refused(grid::wrong_character(k));
     }
     if is_offset(u) {
         if is_offset(v) {
-            return target_of(b, u, v);
+            return Offset::By(u, v);
         }
-        return Asked::Refused(wrong(k + 2));
+        return Offset::Refused(grid::wrong_character(k + 2));
     }
-    Asked::Refused(wrong(k + 1))
+    Offset::Refused(grid::wrong_character(k + 1))
+}
+
+// The 7 of the hyphen, M and N, else where they lead from the base.
+fn offset_from(b: Cell, k: usize, h: u8, m: u8, n: u8) -> Goal
+    requires { ⌜ Known b × (k < 18446744073709551613) ⌝ }
+    ensures { λ r. ⌜ (goalText r ≡ andThen (aimed k h m n (accepted b)) targetOf) × Layable r ⌝ }
+{
+    match offset_in(k, h, m, n) {
+        Offset::By(u, v) => target_of(b, u, v),
+        Offset::Refused(r) => Goal::Refused(r),
+    }
 }
 
 // The base's 6 or 7, else what follows it.
-fn aim(base: PlaneRead, k: usize, h: u8, m: u8, n: u8) -> Asked
+fn aim(base: PlaneRead, k: usize, h: u8, m: u8, n: u8) -> Goal
     requires { ⌜ AsRead base × (k < 18446744073709551613) ⌝ }
-    ensures { λ r. ⌜ (askedText r ≡ ledTo (aimed k h m n (planeRead base))) × Fitting r ⌝ }
+    ensures { λ r. ⌜ (goalText r ≡ andThen (aimed k h m n (planeRead base)) targetOf) × Layable r ⌝ }
 {
     match base {
         PlaneRead::Found(c) => offset_from(c, k, h, m, n),
-        PlaneRead::Refused(r) => Asked::Refused(r),
+        PlaneRead::Refused(r) => Goal::Refused(r),
     }
 }
 
@@ -313,18 +306,18 @@ fn put(base: &[u8], m: u32, n: u32, line: &mut [u8])
 // The reference code laid into the line from `at` on: refusal 5, else the number of bytes.
 fn lay(base: &[u8], m: u32, n: u32, line: &mut [u8], at: usize) -> Written
     requires { ⌜ (m ≤ 16) × (n ≤ 16) ⌝ }
-    ensures { λ r. ⌜ (written r, now (line .exit)) ≡ laid (text (referenceCode (now (base .entry)) m n)) (now (line .entry)) at ⌝ }
+    ensures { λ r. ⌜ (written r, now (line .exit)) ≡ laid (accepted (referenceCode (now (base .entry)) m n)) (now (line .entry)) at ⌝ }
 {
     if line.len() < at {
-        return Written::Refused(plane::refuse(5));
+        return Written::Refused(grid::refuse(5));
     }
     let k = base.len();
     let room = line.len() - at;
     if room < 3 {
-        return Written::Refused(plane::refuse(5));
+        return Written::Refused(grid::refuse(5));
     }
     if room - 3 < k {
-        return Written::Refused(plane::refuse(5));
+        return Written::Refused(grid::refuse(5));
     }
     put(base, m, n, &mut line[at..]);
     Written::Bytes(k + 3)
@@ -342,13 +335,13 @@ fn lay_offset(o: Offset, base: &[u8], line: &mut [u8], at: usize) -> Written
 }
 
 // A refusal, or the target's plane code.
-fn lay_target(a: Asked, line: &mut [u8], at: usize) -> Written
-    requires { ⌜ Fitting a ⌝ }
-    ensures { λ r. ⌜ (written r, now (line .exit)) ≡ laid (askedText a) (now (line .entry)) at ⌝ }
+fn lay_target(a: Goal, line: &mut [u8], at: usize) -> Written
+    requires { ⌜ Layable a ⌝ }
+    ensures { λ r. ⌜ (written r, now (line .exit)) ≡ laid (goalText a) (now (line .entry)) at ⌝ }
 {
     match a {
-        Asked::At(l, p) => plane::lay(l, p, line, at),
-        Asked::Refused(r) => Written::Refused(r),
+        Goal::At(l, p) => plane::lay(l, p, line, at),
+        Goal::Refused(r) => Written::Refused(r),
     }
 }
 
@@ -373,12 +366,12 @@ pub fn write(base: &[u8], target: &[u8], line: &mut [u8], at: usize) -> Written
 }
 
 // Where a reference code leads: refusals 6, 7, 8, 12; else the target's level and place.
-fn goal(code: &[u8]) -> Asked
-    ensures { λ r. ⌜ (askedText r ≡ targetText (now (code .entry))) × Fitting r ⌝ }
+fn goal_of(code: &[u8]) -> Goal
+    ensures { λ r. ⌜ (goalText r ≡ targetText (now (code .entry))) × Layable r ⌝ }
 {
     let n = code.len();
     if n < 3 {
-        return Asked::Refused(plane::refuse(6));
+        return Goal::Refused(grid::refuse(6));
     }
     let k = n - 3;
     let base = plane::read(&code[..k]);
@@ -390,6 +383,6 @@ fn goal(code: &[u8]) -> Asked
 pub fn read(code: &[u8], line: &mut [u8], at: usize) -> Written
     ensures { λ r. ⌜ (written r, now (line .exit)) ≡ laid (targetText (now (code .entry))) (now (line .entry)) at ⌝ }
 {
-    let a = goal(code);
+    let a = goal_of(code);
     lay_target(a, line, at)
 }

@@ -1,14 +1,14 @@
 -- The space reader's answer: what the plane reader and the height reader answer to their parts of the code, together.
 -- Assumes nothing.
 use mathlib.Core.Path.{_≡_, refl, sym, _∙_, ap, subst}
-use mathlib.Core.Bool.{true}
+use mathlib.Core.Bool.{Bool, true, false, cond}
 use mathlib.Core.List.{List, map}
 use mathlib.Core.Option.{Option, some, none}
 use Prim.Native.Nat.{ℕ, zero, suc, _+_, _-_, _≤_, _<_, min}
 use native.Mathlib.Omega.{arith}
-use lib.Dec.{eqb}
+use lib.Dec.{ltb, eqb}
 use lib.ListN.{length, take, getD, length-map}
-use borrow.Author.Tests.{eqb-true}
+use borrow.Author.Tests.{ltb-true, ltb-false, eqb-true}
 use Rattle.grid.specs.declared.Cell.{Cell}
 use Rattle.grid.specs.declared.SpaceCell.{SpaceCell}
 use Rattle.grid.specs.Characters.{digitOf}
@@ -32,7 +32,7 @@ use Rattle.layers.proofs.Radices.{radices-fair}
 use Rattle.layers.proofs.Inside.{read-inside}
 use Rattle.plane.specs.inner.Lengths.{orZero}
 use Rattle.space.specs.inner.Weave.{Strand, firsts, seconds, placeTwo, together}
-use Rattle.space.specs.inner.Parts.{spaceLevelOf, tenStrands, planePart, heightPart, planePlace, joinedAnswer, Lying}
+use Rattle.space.specs.inner.Parts.{spaceLevelOf, tenStrands, planePart, heightPart, planePlace, heightPlace, earlier, joinedAnswer, Lying}
 use Rattle.space.proofs.Weaving.{sliced-one, sliced-two, parts-map, follow-woven}
 use Rattle.space.proofs.Parts.{
   top,
@@ -97,6 +97,14 @@ height-total (suc l) a b = eqb-true _ _ (below (λ l. eqb (total (layers top) (t
 heights-fit : (l : ℕ) → l ≤ 10 → fitsAll (take l (heightLevels radices)) top ≡ true
 heights-fit l h = below (λ l. fitsAll (take l (heightLevels radices)) top) 11 l refl (omega arith)
 
+-- the lesser of two places is that of the earlier refusal
+lesser : (p q : ℕ) → wrongCharacter (min p q) ≡ earlier (wrongCharacter p) (wrongCharacter q)
+lesser p q = go (ltb p q) refl
+  where
+    go : (t : Bool) → ltb p q ≡ t → wrongCharacter (min p q) ≡ cond t (wrongCharacter p) (wrongCharacter q)
+    go true e = let h : p < q = ltb-true p q e in ap wrongCharacter (omega arith)
+    go false e = let h : q ≤ p = ltb-false p q e in ap wrongCharacter (omega arith)
+
 module _ (l : ℕ) (low : 1 ≤ l) (high : l ≤ 10) where
   C : Counted l
   C = ten l low high
@@ -123,6 +131,7 @@ module _ (l : ℕ) (low : 1 ≤ l) (high : l ≤ 10) where
   as-joined (bad p) (bad q) ha hb =
       ap (λ (x : ℕ). refused (wrongCharacter (min x (placeTwo (take l tenStrands) q)))) (plane-place l C p (ha p refl))
       ∙ ap (λ (x : ℕ). refused (wrongCharacter (min (planePlace p) x))) (height-place l C q (hb q refl))
+      ∙ ap refused (lesser (planePlace p) (heightPlace q))
 
   -- a plane code of this length is read level by level
   cell-of : (v : List ℕ) → length v ≡ splitAt (l - 1) .length → unfold planeCodes in (cellOf v ≡ answer planeCodes l (follow plane (take l splits) globe (map digitOf v)))
@@ -164,4 +173,4 @@ read-joined w l t {a = a} {b = b} e f g =
 -- layers that were read lie in their range
 pub lying : (l : ℕ) (ds : List ℕ) (h : LayersRead) → layersAnswer h ≡ heightAnswer radices l ds → Lying h
 lying l ds (layers-as.Found above low thick) e = let r = read-inside radices l ds radices-fair (sym e) in omega (arith, r .0, r .1)
-lying l ds (layers-as.Bad p) e = tt
+lying l ds (layers-as.Refused q) e = tt

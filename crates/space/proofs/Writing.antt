@@ -1,7 +1,7 @@
 -- The space writer's characters: the plane code and the height characters, built apart and woven.
 -- Assumes nothing.
-use mathlib.Core.Path.{_≡_, refl, sym, _∙_, ap, subst}
-use mathlib.Core.Bool.{Bool, true, false, cond}
+use mathlib.Core.Path.{_≡_, refl, sym, _∙_, ap}
+use mathlib.Core.Bool.{Bool, true, false}
 use mathlib.Core.List.{List, map}
 use Prim.Native.Nat.{ℕ, _+_, _-_, _≤_}
 use native.Mathlib.Omega.{arith}
@@ -12,19 +12,19 @@ use lib.Seq.{sets, sets-eq, take-at}
 use borrow.Author.Tests.{lt-ltb}
 use Rattle.grid.specs.declared.Place.{Place}
 use Rattle.grid.specs.declared.Refusal.{Refusal}
-use Rattle.grid.specs.Units.{HALF, QUARTER, LAYERS, side, index, Square, Cube, OnGrid}
+use Rattle.grid.specs.Units.{LAYERS, side, index, Square, Cube, OnGrid}
 use Rattle.grid.specs.inner.Roads.{squareOf}
 use Rattle.grid.specs.Characters.{charOf}
 use Rattle.grid.specs.Tree.{code}
-use Rattle.grid.specs.Answers.{Answer, accepted, refused}
+use Rattle.grid.specs.Answers.{accepted, refused, refusal, unless}
 use Rattle.grid.specs.Codes.{codeIn}
-use Rattle.grid.specs.Laying.{Text, refuse, text, unless}
 use Rattle.grid.specs.Splits.{splits, splitAt}
 use Rattle.grid.specs.Plane.{globe, plane, planeCodes, codeOf}
 use Rattle.grid.specs.Layers.{radices, rise, all, layers}
 use Rattle.grid.specs.Space.{spaceCodes, spaceCodeOf, spaceLengths}
+use Rattle.grid.proofs.Answers.{then-accepted, then-refused}
 use Rattle.grid.proofs.Cut.{clash}
-use Rattle.grid.proofs.PlaneLaws.{laws, index-unit}
+use Rattle.grid.proofs.PlaneLaws.{laws}
 use Rattle.grid.proofs.LayerLaws.{layer-laws}
 use Rattle.grid.proofs.Families.{length-codeIn}
 use Rattle.grid.proofs.Theorems.{radices-sound, space-sound}
@@ -33,17 +33,12 @@ use Rattle.layers.specs.inner.Steps.{layerOf, heightDigits}
 use Rattle.layers.proofs.Radices.{radices-fair}
 use Rattle.layers.proofs.Digits.{height-length}
 use Rattle.layers.proofs.Sides.{asked-at, layer-in}
-use Rattle.plane.specs.declared.Asked.{Asked}
-use Rattle.plane.specs.declared.Asked.the-variants as plane-as
-use Rattle.plane.specs.Text.{levelNumber, planeText}
-use Rattle.plane.specs.inner.Asking.{askedText, Fitting, Same}
+use Rattle.plane.specs.Text.{levelIn}
 use Rattle.plane.proofs.Reading.{code-length, on-globe}
 use Rattle.space.specs.inner.Weave.{weave, spread}
-use Rattle.space.specs.Space.{spaceText, layeredText}
-use Rattle.space.specs.inner.Asking.{askedSpaceText, SpaceFits, FittingSpace}
+use Rattle.space.specs.Space.{layeredText, spaceTextAt, spaceText}
+use Rattle.space.specs.inner.Asking.{SpaceFits}
 use Rattle.space.specs.inner.Parts.{tenStrands, planePlace, heightPlace}
-use Rattle.space.specs.declared.AskedSpace.{AskedSpace}
-use Rattle.space.specs.declared.AskedSpace.the-variants as space-as
 use Rattle.space.proofs.Weaving.{code-woven, weave-map}
 use Rattle.space.proofs.Parts.{top, levels, plane-levels, height-levels, level-strands, levels-good, root-in, ten}
 use Rattle.space.proofs.Spreading.{both-spread}
@@ -79,64 +74,33 @@ put-code l p above n fp fh line f lp lh room ep em eh el =
     rw (el, em, ep, eh, take-stored fp cp np (omega (arith, C .few-one)), take-stored fh ch nh (omega (arith, C .few-two)), code-parts l (f .level-high) (squareOf p, layerOf top above n) o)
     (both-spread l cp ch line (f .level-low) (f .level-high) np nh room)
 
--- ---- what was asked for
+-- ---- what the layer decides
 
 module _ (l : ℕ) (s : Square) (z : ℤ) where
-  pub layered-at : {above : Bool} {n : ℕ} → askedOf radices z ≡ accepted (above, n) → text (spaceCodeOf l (s, layerOf top above n)) ≡ layeredText l s z
+  pub layered-at : {above : Bool} {n : ℕ} → askedOf radices z ≡ accepted (above, n) → accepted (spaceCodeOf l (s, layerOf top above n)) ≡ layeredText l s z
   unfolding layeredText
   layered-at e =
       let a = asked-at radices z e in
-      ap (λ (x : ℤ). text (spaceCodeOf l (s, x))) (a .2) ∙ rw (lt-ltb (index z) LAYERS (a .0)) refl
+      ap (λ (x : ℤ). accepted (spaceCodeOf l (s, x))) (a .2) ∙ rw (lt-ltb (index z) LAYERS (a .0)) refl
 
-  pub layered-out : askedOf radices z ≡ refused outsideLayers → refuse outsideLayers ≡ layeredText l s z
+  pub layered-refused : {r : Refusal} → askedOf radices z ≡ refused r → layeredText l s z ≡ refused r
   unfolding layeredText
-  layered-out e = go (ltb (index z) LAYERS) e
+  layered-refused {r} e = go (ltb (index z) LAYERS) e
     where
-      go : (q : Bool) → cond {A = Answer (Bool × ℕ)} q (accepted (side z, rise top z)) (refused outsideLayers) ≡ refused outsideLayers → refuse outsideLayers ≡ unless q 4 (text (spaceCodeOf l (s, z)))
+      go : (q : Bool) → unless {C = Bool × ℕ} q outsideLayers (accepted (side z, rise top z)) ≡ refused r → unless q (refusal 4 0) (accepted (spaceCodeOf l (s, z))) ≡ refused r
       go true e = clash (cc)
-      go false e = refl
+      go false e = cc
+
+-- ---- the text, once the level is known
 
 module _ (level longitude latitude layer : ℤ) where
-  abbrev sq : Square
-  sq = record { longitude = longitude; latitude = latitude }
-
-  -- where the plane's writer refuses, so does this one
-  pub space-refused : {a : Asked} {r : Refusal} → a ≡ plane-as.Refused r → askedText a ≡ planeText level longitude latitude → refuse r ≡ spaceText level longitude latitude layer
-  unfolding planeText spaceText
-  space-refused {a} {r} e f = go (ltb 0 (levelNumber level)) (ltb (index longitude) HALF) (ltb (index latitude) QUARTER) (ap askedText (sym e) ∙ f)
-    where
-      go : (p q t : Bool) → refuse r ≡ unless p 1 (unless q 2 (unless t 3 (text (codeOf (levelNumber level) sq))))
-          → refuse r ≡ unless p 1 (unless q 2 (unless t 3 (layeredText (levelNumber level) sq layer)))
-      go true true true e = clash (cc)
-      go true true false e = e
-      go true false t e = e
-      go false q t e = e
-
-  -- where it does not, the layer decides
-  pub space-at : {a : Asked} {l : ℕ} {p : Place} → a ≡ plane-as.At l p → Fitting a → Same level longitude latitude a → layeredText l (squareOf p) layer ≡ spaceText level longitude latitude layer
+  pub text-level : {l : ℕ} → levelIn level ≡ accepted l → spaceTextAt l longitude latitude layer ≡ spaceText level longitude latitude layer
   unfolding spaceText
-  space-at {a} {l} {p} e f g =
-      let t = subst Fitting e f in
-      let u = subst (Same level longitude latitude) e g in
-      let x : index longitude ≡ p .x = ap (λ (s : Square). index (s .longitude)) (sym (u .1)) ∙ index-unit (p .east) (p .x) in
-      let y : index latitude ≡ p .y = ap (λ (s : Square). index (s .latitude)) (sym (u .1)) ∙ index-unit (p .north) (p .y) in
-      let k : l ≡ levelNumber level = u .0 in
-      rw (
-        ← k,
-        lt-ltb 0 l (t .0),
-        lt-ltb (index longitude) HALF (omega (arith, x, t .2)),
-        lt-ltb (index latitude) QUARTER (omega (arith, y, t .3)),
-        u .1,
-      ) refl
+  text-level e = then-accepted (λ (k : ℕ). spaceTextAt k longitude latitude layer) e
 
-pub asked-space-at : {a : AskedSpace} {l : ℕ} {p : Place} {above : Bool} {n : ℕ} {t : Text} → a ≡ space-as.At l p above n → askedSpaceText a ≡ t → text (spaceCodeOf l (squareOf p, layerOf top above n)) ≡ t
-asked-space-at e f = ap askedSpaceText (sym e) ∙ f
-
-pub asked-space-unmet : {a : AskedSpace} {r : Refusal} {t : Text} → a ≡ space-as.Unmet r → askedSpaceText a ≡ t → t ≡ refuse r
-asked-space-unmet e f = sym f ∙ ap askedSpaceText e
-
-pub fits-at : {a : AskedSpace} {l : ℕ} {p : Place} {above : Bool} {n : ℕ} → a ≡ space-as.At l p above n → FittingSpace a → SpaceFits l p n
-fits-at e f = subst FittingSpace e f
+  pub text-refused : {r : Refusal} → levelIn level ≡ refused r → spaceText level longitude latitude layer ≡ refused r
+  unfolding spaceText
+  text-refused e = sym (then-refused (λ (k : ℕ). spaceTextAt k longitude latitude layer) e)
 
 pub space-length : (l : ℕ) (p : Place) (n : ℕ) (above : Bool) → SpaceFits l p n → length (spaceCodeOf l (squareOf p, layerOf top above n)) ≡ getD spaceLengths (l - 1) 0
 unfolding spaceCodeOf spaceCodes radices-sound space-sound

@@ -3,12 +3,12 @@
 
 ghost use mathlib.Core.Path.{_≡_};
 ghost use mathlib.Core.List.{map};
-ghost use Prim.Native.Nat.{_+_, _-_, _≤_, _<_, min};
+ghost use Prim.Native.Nat.{_+_, _-_, _≤_, _<_};
 ghost use lib.ListN.{length, getD, take};
 ghost use lib.Seq.{sets};
 ghost use Rattle.grid.specs.Units.{HALF, QUARTER};
-ghost use Rattle.grid.specs.Answers.{accepted, refused, wrongCharacter, planeRead};
-ghost use Rattle.grid.specs.Laying.{text, laid, written};
+ghost use Rattle.grid.specs.Answers.{accepted, refused, planeRead};
+ghost use Rattle.grid.specs.Laying.{laid, written};
 ghost use Rattle.grid.specs.Space.{spaceCodeOf, spaceCellOf, spaceLengths};
 ghost use Rattle.grid.specs.inner.Roads.{squareOf};
 ghost use Rattle.grid.specs.Characters.{digitOf};
@@ -19,9 +19,9 @@ ghost use Rattle.layers.specs.Heights.{heightAnswer, layersAnswer};
 ghost use Rattle.layers.specs.inner.Steps.{layerOf};
 ghost use Rattle.space.specs.inner.Weave.{spread, stored};
 ghost use lib.Dec.{ltb};
-ghost use Rattle.space.specs.Space.{spaceText, layeredText, spaceRead};
-ghost use Rattle.space.specs.inner.Asking.{askedSpaceText, SpaceFits, SpaceRoom, FittingSpace};
-ghost use Rattle.space.specs.inner.Parts.{spaceLevelOf, planePart, heightPart, planePlace, heightPlace, joinedAnswer, Lying};
+ghost use Rattle.space.specs.Space.{layeredText, spaceTextAt, spaceText, spaceRead};
+ghost use Rattle.space.specs.inner.Asking.{SpaceFits, SpaceRoom};
+ghost use Rattle.space.specs.inner.Parts.{spaceLevelOf, planePart, heightPart, planePlace, heightPlace, earlier, joinedAnswer, Lying};
 use grid::Cell;
 use grid::Place;
 use grid::PlaneRead;
@@ -30,7 +30,8 @@ use grid::SpaceCell;
 use grid::Written;
 use layers::AskedLayer;
 use layers::LayersRead;
-use plane::Asked;
+use plane::AskedLevel;
+use plane::AskedPosition;
 
 // A space reader's answer.
 pub enum SpaceRead {
@@ -247,33 +248,6 @@ fn height_part(level: u32, code: &[u8], part: &mut [u8])
 
 // ---- writing
 
-// What a space writer is asked for, once refusals 1 to 4 are decided in that order.
-enum AskedSpace {
-    At(u32, Place, bool, u32),
-    Unmet(Refusal),
-}
-
-// Refusal 4, else the layer's side and rise.
-fn over(l: u32, p: Place, layer: i64) -> AskedSpace
-    requires { ⌜ (1 ≤ l) × (l ≤ 10) × (p .x < HALF) × (p .y < QUARTER) ⌝ }
-    ensures { λ r. ⌜ (askedSpaceText r ≡ layeredText l (squareOf p) layer) × FittingSpace r ⌝ }
-{
-    match layers::ask_layer(layer) {
-        AskedLayer::At(above, rise) => AskedSpace::At(l, p, above, rise),
-        AskedLayer::Outside => AskedSpace::Unmet(plane::refuse(4)),
-    }
-}
-
-// Refusals 1 to 4, else all that a space code is written of.
-fn ask(level: i64, longitude: i64, latitude: i64, layer: i64) -> AskedSpace
-    ensures { λ r. ⌜ (askedSpaceText r ≡ spaceText level longitude latitude layer) × FittingSpace r ⌝ }
-{
-    match plane::ask(level, longitude, latitude) {
-        Asked::At(l, p) => over(l, p, layer),
-        Asked::Refused(r) => AskedSpace::Unmet(r),
-    }
-}
-
 // The plane character i at its place in the space code; and that one and the next.
 fn plane_one(level: u32, k: u32, part: &[u8], i: usize, line: &mut [u8])
     requires { ⌜ (i < length (now part)) × (k < level → planePlace i < length (now line)) ⌝ }
@@ -376,17 +350,46 @@ fn put(l: u32, p: Place, above: bool, rise: u32, line: &mut [u8])
 // Lays the space code into the line from `at` on, if there is room: refusal 5, else the number of bytes.
 fn lay(l: u32, p: Place, above: bool, rise: u32, line: &mut [u8], at: usize) -> Written
     requires { ⌜ SpaceFits l p rise ⌝ }
-    ensures { λ r. ⌜ (written r, now (line .exit)) ≡ laid (text (spaceCodeOf l (squareOf p, layerOf (product radices) above rise))) (now (line .entry)) at ⌝ }
+    ensures { λ r. ⌜ (written r, now (line .exit)) ≡ laid (accepted (spaceCodeOf l (squareOf p, layerOf (product radices) above rise))) (now (line .entry)) at ⌝ }
 {
     let n = length_of(l);
     if line.len() < at {
-        return Written::Refused(plane::refuse(5));
+        return Written::Refused(grid::refuse(5));
     }
     if line.len() - at < n {
-        return Written::Refused(plane::refuse(5));
+        return Written::Refused(grid::refuse(5));
     }
     put(l, p, above, rise, &mut line[at..]);
     Written::Bytes(n)
+}
+
+// The space code of a level for a place and a layer: refusals 4 and 5, in that order.
+fn write_over(l: u32, p: Place, layer: i64, line: &mut [u8], at: usize) -> Written
+    requires { ⌜ (1 ≤ l) × (l ≤ 10) × (p .x < HALF) × (p .y < QUARTER) ⌝ }
+    ensures { λ r. ⌜ (written r, now (line .exit)) ≡ laid (layeredText l (squareOf p) layer) (now (line .entry)) at ⌝ }
+{
+    match layers::ask_layer(layer) {
+        AskedLayer::At(above, rise) => lay(l, p, above, rise, line, at),
+        AskedLayer::Refused(r) => Written::Refused(r),
+    }
+}
+
+// The space code of a level for a position and a layer: refusals 2, 3, 4 and 5, in that order.
+fn write_at(
+    l: u32,
+    longitude: i64,
+    latitude: i64,
+    layer: i64,
+    line: &mut [u8],
+    at: usize,
+) -> Written
+    requires { ⌜ (1 ≤ l) × (l ≤ 10) ⌝ }
+    ensures { λ r. ⌜ (written r, now (line .exit)) ≡ laid (spaceTextAt l longitude latitude layer) (now (line .entry)) at ⌝ }
+{
+    match plane::ask_position(1, longitude, latitude) {
+        AskedPosition::At(p) => write_over(l, p, layer, line, at),
+        AskedPosition::Refused(r) => Written::Refused(r),
+    }
 }
 
 // The space code of a position and a layer, written into the line from `at` on. Refusals 1, 2, 3, 4 and 5, in that order; a refusal changes no byte.
@@ -400,30 +403,19 @@ pub fn write(
 ) -> Written
     ensures { λ r. ⌜ (written r, now (line .exit)) ≡ laid (spaceText level longitude latitude layer) (now (line .entry)) at ⌝ }
 {
-    match ask(level, longitude, latitude, layer) {
-        AskedSpace::At(l, p, above, rise) => lay(l, p, above, rise, line, at),
-        AskedSpace::Unmet(r) => Written::Refused(r),
+    match plane::ask_level(level) {
+        AskedLevel::At(l) => write_at(l, longitude, latitude, layer, line, at),
+        AskedLevel::Refused(r) => Written::Refused(r),
     }
 }
 
 // ---- reading
 
-// The character at a place is not allowed.
-fn bad_at(place: usize) -> SpaceRead
-    ensures { λ r. ⌜ spaceRead r ≡ refused (wrongCharacter place) ⌝ }
+// Of two bad characters, the one that stands first.
+fn earlier(r: Refusal, q: Refusal) -> Refusal
+    ensures { λ s. ⌜ s ≡ earlier r q ⌝ }
 {
-    SpaceRead::Refused(Refusal {
-        number: 7,
-        place: place,
-        ordinal: 1,
-    })
-}
-
-// The lesser of two places.
-fn lesser(a: usize, b: usize) -> usize
-    ensures { λ r. ⌜ r ≡ min a b ⌝ }
-{
-    if a < b { a } else { b }
+    if r.place < q.place { r } else { q }
 }
 
 // The plane's answer over layers that were read: the cell with them, or the bad plane character.
@@ -437,18 +429,21 @@ fn over_layers(a: PlaneRead, above: bool, low: u32, thick: u32) -> SpaceRead
             floor: layers::floor(above, low),
             thickness: thick,
         }),
-        PlaneRead::Refused(q) => bad_at(plane_place(q.place)),
+        PlaneRead::Refused(r) => SpaceRead::Refused(grid::at_place(plane_place(r.place), r)),
     }
 }
 
 // A bad height character, unless a bad plane character stands before it.
-fn over_bad(a: PlaneRead, p: usize) -> SpaceRead
-    ensures { λ r. ⌜ spaceRead r ≡ joinedAnswer (planeRead a) (refused (wrongCharacter p)) ⌝ }
+fn over_bad(a: PlaneRead, q: Refusal) -> SpaceRead
+    ensures { λ r. ⌜ spaceRead r ≡ joinedAnswer (planeRead a) (refused q) ⌝ }
 {
-    let high = height_place(p);
+    let high = grid::at_place(height_place(q.place), q);
     match a {
-        PlaneRead::Found(c) => bad_at(high),
-        PlaneRead::Refused(q) => bad_at(lesser(plane_place(q.place), high)),
+        PlaneRead::Found(c) => SpaceRead::Refused(high),
+        PlaneRead::Refused(r) => SpaceRead::Refused(earlier(
+            grid::at_place(plane_place(r.place), r),
+            high,
+        )),
     }
 }
 
@@ -459,7 +454,7 @@ fn joined(a: PlaneRead, h: LayersRead) -> SpaceRead
 {
     match h {
         LayersRead::Found(above, low, thick) => over_layers(a, above, low, thick),
-        LayersRead::Bad(p) => over_bad(a, p),
+        LayersRead::Refused(q) => over_bad(a, q),
     }
 }
 
@@ -491,7 +486,7 @@ pub fn read(code: &[u8]) -> SpaceRead
 {
     let level = level_of(code.len());
     if level == 0 {
-        return SpaceRead::Refused(plane::refuse(6));
+        return SpaceRead::Refused(grid::refuse(6));
     }
     let a = plane_of(level, code);
     let h = height_of(level, code);

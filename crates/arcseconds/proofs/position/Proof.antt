@@ -4,7 +4,7 @@ use mathlib.Core.Path.{sym, ap, ap₂, _∙_}
 use lib.IntN.{ℤ}
 use mir.Syntax.{w32}
 use mir.Facts.{toZ-ofZ}
-use Rattle.grid.specs.Answers.{accepted}
+use Rattle.grid.specs.Answers.{accepted, refused}
 use Rattle.arcseconds.specs.declared.Reading.{Reading}
 use Rattle.arcseconds.specs.Readings.{units, unitsAt}
 use Rattle.arcseconds.specs.inner.Axis.{readingAnswer}
@@ -32,11 +32,11 @@ enum-known-latitude c = search needs
 
 returns : tie.Need-returns
 unfolding unitsAt
-returns c = c .refuse .ensures ∙ ap (λ (r : Reading). unitsAt (readingAnswer 2 r) (readingAnswer 3 (c .before .before .before .args .latitude))) (sym (c .before .enum-told .given .1))
+returns c = ap refused (c .refuse .ensures) ∙ ap (λ (r : Reading). unitsAt (readingAnswer 2 r) (readingAnswer 3 (c .before .before .before .args .latitude))) (sym (c .before .enum-told .given .1))
 
 returns-2 : tie.Need-returns-2
 unfolding unitsAt
-returns-2 c = c .refuse2 .ensures ∙ ap₂ (λ (r s : Reading). unitsAt (readingAnswer 2 r) (readingAnswer 3 s)) (sym (c .before .before .before .before .longitude .given .1)) (sym (c .before .enum-told2 .given .1))
+returns-2 c = ap refused (c .refuse2 .ensures) ∙ ap₂ (λ (r s : Reading). unitsAt (readingAnswer 2 r) (readingAnswer 3 s)) (sym (c .before .before .before .before .longitude .given .1)) (sym (c .before .enum-told2 .given .1))
 
 returns-3 : tie.Need-returns-3
 unfolding unitsAt

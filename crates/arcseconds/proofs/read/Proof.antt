@@ -1,6 +1,7 @@
 -- `read` meets its contract: 11 first, then what the two readings come to.
 -- Assumes nothing.
-use mathlib.Core.Path.{ap₂, _∙_}
+use mathlib.Core.Path.{ap, ap₂, _∙_}
+use Rattle.grid.specs.Answers.{refused}
 use Rattle.arcseconds.specs.Readings.{unitsAt}
 use Rattle.arcseconds.proofs.Number.{no-nan, first-nan, second-nan, both-numbers}
 use borrow.Author.Needs.{needs}
@@ -11,13 +12,13 @@ refuse-requires : tie.Need-refuse-requires
 refuse-requires c κs = search needs
 
 returns : tie.Need-returns
-returns c = c .refuse .ensures ∙ first-nan (c .before .before .args .longitude) (c .before .before .args .latitude) (c .before .if1 .taken)
+returns c = ap refused (c .refuse .ensures) ∙ first-nan (c .before .before .args .longitude) (c .before .before .args .latitude) (c .before .if1 .taken)
 
 refuse-requires-2 : tie.Need-refuse-requires-2
 refuse-requires-2 c κs = search needs
 
 returns-2 : tie.Need-returns-2
-returns-2 c = c .refuse2 .ensures ∙ second-nan (c .before .before .before .args .longitude) (c .before .before .before .args .latitude) (c .before .if2 .taken)
+returns-2 c = ap refused (c .refuse2 .ensures) ∙ second-nan (c .before .before .before .args .longitude) (c .before .before .before .args .latitude) (c .before .if2 .taken)
 
 axis-requires : tie.Need-axis-requires
 axis-requires c κs = (no-nan (c .before .before .args .longitude) (c .before .if1 .left), search needs, search needs)

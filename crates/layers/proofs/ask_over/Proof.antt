@@ -13,8 +13,13 @@ outward-requires c κs = search needs
 cast-if1 : tie.Need-cast-if1
 cast-if1 c = search needs
 
+refuse-requires : tie.Need-refuse-requires
+refuse-requires c κs = search needs
+
 returns : tie.Need-returns
-returns c = let s = c .before .before .before in asked-outside (s .args .rs) (s .fits .layer) (c .before .before .thickness .ensures) (c .before .outward .ensures) (c .if1 .taken)
+returns c =
+    let s = c .before .before .before .before in
+    asked-outside (s .args .rs) (s .fits .layer) (c .before .before .before .thickness .ensures) (c .before .before .outward .ensures) (c .refuse .ensures) (c .before .if1 .taken)
 
 cast-below-ground : tie.Need-cast-below-ground
 cast-below-ground c = search needs
@@ -22,8 +27,8 @@ cast-below-ground c = search needs
 below-ground-requires : tie.Need-below-ground-requires
 below-ground-requires c κs = search needs
 
-cast-t10 : tie.Need-cast-t10
-cast-t10 c = search needs
+cast-t11 : tie.Need-cast-t11
+cast-t11 c = search needs
 
 returns-2 : tie.Need-returns-2
 returns-2 c =
@@ -42,9 +47,10 @@ ask-over-spec =
     thickness-requires
     outward-requires
     cast-if1
+    refuse-requires
     returns
     cast-below-ground
     below-ground-requires
-    cast-t10
+    cast-t11
     returns-2
     returns-3)

@@ -8,8 +8,6 @@ use Rattle.layers.specs.inner.Steps.{Fair, thicknessAt}
 use Rattle.layers.proofs.Radices.{thick-fits, thick-last, thick-step}
 use Rattle.layers.proofs.thickness.Statement.{statement}
 use Rattle.layers.proofs.thickness.Tie as tie
-use Rattle.layers.proofs.thickness.Reads as reads
-use Rattle.layers.proofs.thickness.Lts as lts
 
 abbrev Inv-loop : tie.InvT-loop
 Inv-loop k rs t₀ i₀ t i = (k ≤ i) × (i ≤ 10) × (t ≡ thicknessAt rs i)

@@ -48,6 +48,10 @@ pub record HeightWritable (rs : List ℕ) (level rise : ℕ) (line : List ℕ) :
   pub rise-in : rise < product rs
   pub room : 2 + level ≤ length line
 
+-- the number of level 1: which part of a side holds the rise
+unfoldable pub firstNumber : List ℕ → ℕ → ℕ
+firstNumber rs n = n / thicknessAt rs 1
+
 -- the digit of level k + 1, one after the first: which part of the level before holds the rise
 unfoldable pub digitAt : List ℕ → ℕ → ℕ → ℕ
 digitAt rs k n = n / thicknessAt rs (k + 1) % getD rs k 0

@@ -1,17 +1,14 @@
--- What the writer of ordinary plane codes is given, and the characters that each level adds.
+-- What the writer of ordinary plane codes is given, and the digits of each level after the first.
 -- Assumes nothing.
-use mathlib.Core.Path.{_≡_}
-use mathlib.Core.Bool.{cond}
-use mathlib.Core.List.{List, [], map}
 use Prim.Native.Nat.{ℕ, _-_, _/_, _%_, _≤_, _<_}
-use lib.Dec.{ltb}
+use mathlib.Core.List.{List}
 use lib.ListN.{length}
+use Rattle.grid.specs.declared.Digits.{Digits}
 use Rattle.grid.specs.declared.Place.{Place}
 use Rattle.grid.specs.declared.Split.{Split}
 use Rattle.grid.specs.Units.{HALF, POLAR}
-use Rattle.grid.specs.Characters.{charOf}
 use Rattle.grid.specs.Splits.{splitAt}
-use Rattle.grid.specs.Plane.{formOf, write}
+use Rattle.grid.specs.inner.Roads.{placeOf, LevelFits}
 
 -- a level, an ordinary position, and a line with room for its code
 pub record OrdinaryWritable (level : ℕ) (p : Place) (line : List ℕ) : Type 0 where
@@ -21,24 +18,19 @@ pub record OrdinaryWritable (level : ℕ) (p : Place) (line : List ℕ) : Type 0
   pub y-in : p .y < POLAR
   pub room : splitAt (level - 1) .length ≤ length line
 
--- s is the split of level k + 1, a level after the first
-pub record Later (k : ℕ) (s : Split) : Type 0 where
-  pub later : 1 ≤ k
-  pub ten : k < 10
-  pub is : s ≡ splitAt k
+-- the column and the row of the outward indices x and y, in the cell of the level before
+abbrev pub ordinaryDigits : Split → ℕ → ℕ → Digits
+ordinaryDigits s x y = record { columns = s .columns; column = x / s .width % s .columns; row = y / s .height % s .rows }
 
--- the column and the row of a place in the cell of the level before
-abbrev pub columnIn : Split → ℕ → ℕ
-columnIn s x = x / s .width % s .columns
+-- a level's divisions have divisors
+pub record OrdinaryDivides (s : Split) : Type 0 where
+  pub wide : 0 < s .width
+  pub high : 0 < s .height
+  pub some-columns : 0 < s .columns
+  pub some-rows : 0 < s .rows
 
--- the row of the level s that has an index
-abbrev pub rowIn : Split → ℕ → ℕ
-rowIn s y = y / s .height % s .rows
-
--- the digits of a level after the first
-abbrev pub ordinaryDigits : Split → ℕ → ℕ → List ℕ
-ordinaryDigits s x y = write (formOf (s .characters) (s .columns)) (columnIn s x) (rowIn s y)
-
--- the characters of level k + 1 in a code of a level; none where the code ends before them
-unfoldable pub ordinaryChars : ℕ → ℕ → Place → List ℕ
-ordinaryChars level k p = cond (ltb k level) (map charOf (ordinaryDigits (splitAt k) (p .x) (p .y))) []
+-- level k + 1, whose split is s, can be written
+pub record OrdinaryReady (level k : ℕ) (s : Split) (p : Place) (line : List ℕ) : Type 0 where
+  pub divides : OrdinaryDivides s
+  pub starts : s .characters ≤ s .length
+  pub fits : LevelFits level k s (ordinaryDigits s (p .x) (p .y)) line (placeOf s)

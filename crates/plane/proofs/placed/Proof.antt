@@ -20,7 +20,10 @@ cast-t8 : tie.Need-cast-t8
 cast-t8 c = search needs
 
 returns : tie.Need-returns
-returns c = record { same = square-of (c .before .before .args .longitude) (c .before .before .args .latitude) (c .before .upper .ensures ∙ ap side (toZ-ofZ (c .before .before .fits .longitude))) (c .upper2 .ensures ∙ ap side (toZ-ofZ (c .before .before .fits .latitude))) (c .before .before .pre .0) (c .before .before .pre .1); wide = c .before .before .pre .2; high = c .before .before .pre .3 }
+returns c =
+    let s = c .before .before in
+    square-of (s .args .longitude) (s .args .latitude) (c .before .upper .ensures ∙ ap side (toZ-ofZ (s .fits .longitude)))
+    (c .upper2 .ensures ∙ ap side (toZ-ofZ (s .fits .latitude))) (s .pre .0) (s .pre .1)
 
 pub placed-spec : {M : Type 1} → statement M
 placed-spec = tie.close (tie.spec upper-requires upper-requires-2 cast-t7 cast-t8 returns)

@@ -45,6 +45,9 @@ rest-requires-2 c κs =
 enum-known-place : tie.Need-enum-known-place
 enum-known-place c = search needs
 
+wrong-character-requires : tie.Need-wrong-character-requires
+wrong-character-requires c κs = search needs
+
 returns-2 : tie.Need-returns-2
 returns-2 c = read-rest (c .before .before .before .before .before .before .before .before .args .code .now) (known (c .before .before .before .before .before)) (ap firstRead (sym (c .before .before .north .given .1)) ∙ c .before .before .before .before .begin .ensures .0) (c .rest .ensures)
 
@@ -52,7 +55,10 @@ returns-3 : tie.Need-returns-3
 returns-3 c = read-rest (c .before .before .before .before .before .before .before .before .args .code .now) (known (c .before .before .before .before .before)) (ap firstRead (sym (c .before .before .north2 .given .1)) ∙ c .before .before .before .before .begin .ensures .0) (c .rest2 .ensures)
 
 returns-4 : tie.Need-returns-4
-returns-4 c = read-first (c .before .before .before .before .before .before .before .args .code .now) (known (c .before .before .before .before)) (ap firstRead (sym (c .before .place .given .1)) ∙ c .before .before .before .begin .ensures .0)
+returns-4 c =
+    ap answers.refused (c .wrong-character .ensures)
+    ∙ read-first (c .before .before .before .before .before .before .before .before .args .code .now) (known (c .before .before .before .before .before))
+    (ap firstRead (sym (c .before .before .place .given .1)) ∙ c .before .before .before .before .begin .ensures .0)
 
 pub read-spec : {M : Type 1} → statement M
 read-spec =
@@ -67,6 +73,7 @@ read-spec =
     enum-known-north-2
     rest-requires-2
     enum-known-place
+    wrong-character-requires
     returns-2
     returns-3
     returns-4)

@@ -2,34 +2,31 @@
 -- Assumes nothing.
 use mathlib.Core.Bool.{Bool}
 use mathlib.Core.List.{List}
-use mathlib.Core.Path.{_≡_}
 use Prim.Native.Nat.{ℕ, _-_, _≤_, _<_}
-use lib.IntN.{ℤ}
 use lib.ListN.{length}
 use Rattle.grid.specs.declared.Place.{Place}
-use Rattle.grid.specs.Units.{HALF, QUARTER}
+use Rattle.grid.specs.Units.{HALF, QUARTER, Square}
 use Rattle.grid.specs.Splits.{splitAt}
-use Rattle.grid.specs.Laying.{Text, refuse, text}
-use Rattle.grid.specs.Plane.{codeOf}
+use Rattle.grid.specs.Answers.{Answer, accepted, refused}
 use Rattle.grid.specs.inner.Roads.{squareOf}
-use Rattle.plane.specs.declared.Asked.{Asked}
-use Rattle.plane.specs.declared.Asked.the-variants.{At, Refused}
-use Rattle.plane.specs.Text.{levelNumber}
+use Rattle.plane.specs.declared.AskedLevel.{AskedLevel}
+use Rattle.plane.specs.declared.AskedLevel.the-variants as level
+use Rattle.plane.specs.declared.AskedPosition.{AskedPosition}
+use Rattle.plane.specs.declared.AskedPosition.the-variants as position
 
--- what was asked for, as a text
-abbrev pub askedText : Asked → Text
-askedText (At l p) = text (codeOf l (squareOf p))
-askedText (Refused r) = refuse r
+-- the level that was asked for, or the refusal
+abbrev pub levelAsked : AskedLevel → Answer ℕ
+levelAsked (level.At l) = accepted l
+levelAsked (level.Refused r) = refused r
+
+-- the square of the place that was asked for, or the refusal
+abbrev pub positionAsked : AskedPosition → Answer Square
+positionAsked (position.At p) = accepted (squareOf p)
+positionAsked (position.Refused r) = refused r
 
 -- the place that has these parts
 abbrev pub placeAt : Bool → Bool → ℕ → ℕ → Place
 placeAt east north x y = record { east = east; north = north; x = x; y = y }
-
--- the place of a position
-pub record Placed (longitude latitude : ℤ) (p : Place) : Type 0 where
-  pub same : squareOf p ≡ record { longitude = longitude; latitude = latitude }
-  pub wide : p .x < HALF
-  pub high : p .y < QUARTER
 
 -- a level, a position on the globe, and a line with room for its code
 pub record PlaneWritable (level : ℕ) (p : Place) (line : List ℕ) : Type 0 where
@@ -38,14 +35,3 @@ pub record PlaneWritable (level : ℕ) (p : Place) (line : List ℕ) : Type 0 wh
   pub wide : p .x < HALF
   pub high : p .y < QUARTER
   pub room : splitAt (level - 1) .length ≤ length line
-
--- a level 1 to 10, and a place on the globe
-abbrev pub Fitting : Asked → Type 0
-Fitting (At l p) = (1 ≤ l) × (l ≤ 10) × (p .x < HALF) × (p .y < QUARTER)
-Fitting (Refused r) = Unit {0}
-
--- the level and the square are those that were asked for
-abbrev pub Same : ℤ → ℤ → ℤ → Asked → Type 0
-Same level longitude latitude (At l p) =
-    (l ≡ levelNumber level) × (squareOf p ≡ record { longitude = longitude; latitude = latitude })
-Same level longitude latitude (Refused r) = Unit {0}

@@ -1,6 +1,8 @@
 -- `polar_write::start` meets its contract. Assumes nothing.
-use Rattle.polar_write.proofs.Starts.{first-room, second-fits, starts-of}
+use native.Mathlib.Omega.{arith}
 use borrow.Author.Needs.{needs}
+use Rattle.grid.proofs.Levels.{starts}
+use Rattle.polar_write.proofs.Starts.{first-room, second-fits, starts-of}
 use Rattle.polar_write.proofs.start.Statement.{statement}
 use Rattle.polar_write.proofs.start.Tie as tie
 
@@ -13,26 +15,24 @@ begin-requires c κs = search needs
 split-of-requires : tie.Need-split-of-requires
 split-of-requires c κs = search needs
 
-put-step-requires : tie.Need-put-step-requires
-put-step-requires c κs =
-    second-fits (c .before .before .before .before .before .before .before .before .pre) (c .before .before .before .before .before .put-first .ensures) (c .before .split-of .ensures) (c .before .before .begin .ensures)
+sub-put-digits : tie.Need-sub-put-digits
+sub-put-digits c = starts {k = 1} (omega arith) (c .before .before .split-of .ensures)
+
+put-digits-requires : tie.Need-put-digits-requires
+put-digits-requires c κs =
+    let d = c .before .before .before in
+    second-fits (d .before .before .before .before .before .before .pre) (d .before .before .before .put-first .ensures) (c .before .before .split-of .ensures) (d .begin .ensures)
 
 same-length : tie.Need-same-length
 same-length c = search needs
 
 returns : tie.Need-returns
 returns c =
-    let d = c .before .before .before .before .before .before in
-    starts-of (d .before .before .before .before .before .before .pre) (d .before .before .before .put-first .ensures) (c .before .before .before .before .before .split-of .ensures) (d .begin .ensures)
-    (c .before .before .before .put-step .ensures)
+    let d = c .before .before .before .before .before .before .before in
+    starts-of (d .before .before .before .before .before .before .pre) (d .before .before .before .put-first .ensures) (c .before .before .before .before .before .before .split-of .ensures)
+    (d .begin .ensures) (c .before .before .before .put-digits .ensures)
 
 pub start-spec : {M : Type 1} → statement M
 start-spec =
     tie.close
-    (tie.spec
-    put-first-requires
-    begin-requires
-    split-of-requires
-    put-step-requires
-    same-length
-    returns)
+    (tie.spec put-first-requires begin-requires split-of-requires sub-put-digits put-digits-requires same-length returns)

@@ -11,20 +11,20 @@ polar-cell-requires c κs = search needs
 corner-of-requires : tie.Need-corner-of-requires
 corner-of-requires c κs = let s = c .before .pre in belt-edge (s .1) (s .0) (c .polar-cell .ensures)
 
-sub-t7 : tie.Need-sub-t7
-sub-t7 c = let s = c .before .before .before .pre in omega (arith, belt-x (s .1) (s .0) (c .before .before .polar-cell .ensures), c .before .corner-of .ensures)
+sub-t6 : tie.Need-sub-t6
+sub-t6 c = let s = c .before .before .before .pre in omega (arith, belt-x (s .1) (s .0) (c .before .before .polar-cell .ensures), c .before .corner-of .ensures)
 
 high-requires : tie.Need-high-requires
 high-requires c κs = search needs
 
+div-t8 : tie.Need-div-t8
+div-t8 c = search needs
+
 div-t9 : tie.Need-div-t9
-div-t9 c = search needs
+div-t9 c = rw (c .high .ensures) (omega arith)
 
-div-t10 : tie.Need-div-t10
-div-t10 c = rw (c .high .ensures) (omega arith)
-
-sub-t11 : tie.Need-sub-t11
-sub-t11 c = let s = c .before .before .before .before .before .before .pre in omega (arith, belt-y (s .1) (s .0) (c .before .before .before .before .before .polar-cell .ensures))
+sub-t10 : tie.Need-sub-t10
+sub-t10 c = let s = c .before .before .before .before .before .before .pre in omega (arith, belt-y (s .1) (s .0) (c .before .before .before .before .before .polar-cell .ensures))
 
 returns : tie.Need-returns
 returns c =
@@ -34,4 +34,4 @@ returns c =
 
 pub to-belt-spec : {M : Type 1} → statement M
 to-belt-spec =
-    tie.close (tie.spec polar-cell-requires corner-of-requires sub-t7 high-requires div-t9 div-t10 sub-t11 returns)
+    tie.close (tie.spec polar-cell-requires corner-of-requires sub-t6 high-requires div-t8 div-t9 sub-t10 returns)

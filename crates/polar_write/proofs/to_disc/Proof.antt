@@ -14,8 +14,8 @@ high-requires c κs = search needs
 eastward-of-requires : tie.Need-eastward-of-requires
 eastward-of-requires c κs = search needs
 
-sub-t8 : tie.Need-sub-t8
-sub-t8 c =
+sub-t7 : tie.Need-sub-t7
+sub-t7 c =
     let a = c .before .before .before in
     let s = a .before .pre in
     disc-x (s .2) (s .0) (s .1) (a .polar-cell .ensures) (c .before .eastward-of .ensures)
@@ -23,23 +23,23 @@ sub-t8 c =
 third-requires : tie.Need-third-requires
 third-requires c κs = search needs
 
+div-t9 : tie.Need-div-t9
+div-t9 c = search needs
+
 div-t10 : tie.Need-div-t10
-div-t10 c = search needs
+div-t10 c = rw (c .third .ensures, c .before .before .before .high .ensures) (omega arith)
 
-div-t11 : tie.Need-div-t11
-div-t11 c = rw (c .third .ensures, c .before .before .before .high .ensures) (omega arith)
-
-add-t12 : tie.Need-add-t12
-add-t12 c =
+add-t11 : tie.Need-add-t11
+add-t11 c =
     let a = c .before .before .before .before .before in
     let s = a .before .pre in
     record { fits = omega (arith, disc-low (s .2) (s .0) (s .1) (a .polar-cell .ensures)) }
 
-sub-t13 : tie.Need-sub-t13
-sub-t13 c = search needs
+sub-t12 : tie.Need-sub-t12
+sub-t12 c = search needs
 
-sub-t14 : tie.Need-sub-t14
-sub-t14 c =
+sub-t13 : tie.Need-sub-t13
+sub-t13 c =
     let a = c .before .before .before .before .before .before in
     let s = a .before .pre in
     omega (arith, disc-y (s .2) (s .0) (s .1) (a .polar-cell .ensures))
@@ -58,11 +58,11 @@ to-disc-spec =
     polar-cell-requires
     high-requires
     eastward-of-requires
-    sub-t8
+    sub-t7
     third-requires
+    div-t9
     div-t10
-    div-t11
-    add-t12
+    add-t11
+    sub-t12
     sub-t13
-    sub-t14
     returns)

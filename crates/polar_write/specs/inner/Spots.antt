@@ -1,20 +1,19 @@
--- Where a polar square stands in its cell from level 2 on, how one level moves it on, and the characters that the level adds.
+-- Where a polar square stands in its cell from level 2 on, how one level moves it on, and what the functions of the writer are given and leave.
 -- A cell that is no cap is seen as wide as it is high: x counts its width in as many parts as it has units of height.
 -- Assumes nothing.
 use mathlib.Core.Path.{_≡_}
-use mathlib.Core.Bool.{Bool, true, false, cond}
+use mathlib.Core.Bool.{Bool, true, false}
 use mathlib.Core.List.{List, [], _∷_, map}
-use Prim.Native.Nat.{ℕ, zero, suc, _+_, _-_, _*_, _/_, _%_, _≤_, _<_, min}
-use lib.Dec.{ltb}
+use Prim.Native.Nat.{ℕ, zero, suc, _+_, _-_, _/_, _%_, _≤_, _<_, min}
 use lib.ListN.{length}
 use lib.Seq.{sets}
 use Rattle.grid.specs.declared.Split.{Split}
 use Rattle.grid.specs.declared.Place.{Place}
 use Rattle.grid.specs.Units.{TURN, HALF, QUARTER, POLAR, eastward, fromPole, Square}
 use Rattle.grid.specs.Splits.{splitAt, polarCellAt}
-use Rattle.grid.specs.inner.Roads.{squareOf, placeOf}
+use Rattle.grid.specs.inner.Roads.{squareOf, placeOf, levelChars, LevelFits}
 use Rattle.grid.specs.Characters.{charOf}
-use Rattle.grid.specs.Plane.{Node, globe, pole, cell, cap, xIn, yIn, formOf, write, letter, polarHolds, polarCellOf, polarNode, codeOf}
+use Rattle.grid.specs.Plane.{Node, globe, pole, cell, cap, xIn, yIn, letter, polarHolds, polarCellOf, polarNode, codeOf}
 use Rattle.polar_write.specs.declared.Spot.{Spot}
 use Rattle.polar_write.specs.declared.Step.{Step}
 
@@ -24,7 +23,7 @@ spot c x y = record { cap = c; x = x; y = y }
 
 -- columns, the column and the row, and where in that child
 abbrev pub step : ℕ → ℕ → ℕ → Spot → Step
-step n c r s = record { columns = n; column = c; row = r; rest = s }
+step n c r s = record { digits = record { columns = n; column = c; row = r }; rest = s }
 
 -- where a square stands in a node: in a cap eastward and from the pole, in another cell from its corner in its own frame.
 -- The globe and N000 and S000 have no spots
@@ -57,43 +56,22 @@ spotStep t s = stepAs (s .cap) t (s .x) (s .y)
 abbrev pub firstChars : Bool → List ℕ
 firstChars north = map charOf (letter north ∷ 0 ∷ 0 ∷ 0 ∷ [])
 
--- what place k of the table, level k + 1, adds to the code of a level
-unfoldable pub added : ℕ → ℕ → Split → Step → List ℕ
-added level k t s = cond (ltb k level) (map charOf (write (formOf (t .characters) (s .columns)) (s .column) (s .row))) []
-
 -- a level's divisions have divisors
 pub record SpotDivides (t : Split) : Type 0 where
   pub wide : 0 < t .width
   pub round : 0 < t .ring
   pub parts : 0 < ringWidth t / t .width
 
--- the digits of a step have characters, and the line has room for them
-pub record SpotFits (level k : ℕ) (t : Split) (s : Step) (line : List ℕ) : Type 0 where
-  pub room : k < level → t .length ≤ length line
-  pub starts : t .characters ≤ t .length
-  pub some : 1 ≤ t .characters
-  pub few : t .characters ≤ 2
-  pub column : s .column < 16
-  pub row : s .row < 16
-  pub single : s .row ≤ 1 + 100 * (t .characters - 1)
-
--- a spot in a cell h high, or in a cap
-pub record SpotStands (h : ℕ) (s : Spot) : Type 0 where
-  pub across : s .x < cond (s .cap) TURN h
-  pub along : s .y < h
-
--- place k of the table, from 2 on, can be gone down
+-- level k + 1, whose split is t, can be gone down and written
 pub record SpotReady (level k : ℕ) (t : Split) (s : Spot) (line : List ℕ) : Type 0 where
-  pub level-low : 2 ≤ k
-  pub level-high : k < 10
-  pub split : t ≡ splitAt k
-  pub stands : SpotStands (splitAt (k - 1) .width) s
-  pub room : k < level → t .length ≤ length line
+  pub divides : SpotDivides t
+  pub starts : t .characters ≤ t .length
+  pub fits : LevelFits level k t (spotStep t s .digits) line (placeOf t)
 
 -- gone down: the spot is moved, and the level's characters are laid down
 pub record Gone (level k : ℕ) (t : Split) (s : Spot) (before after : List ℕ) (r : Spot) : Type 0 where
   pub moved : r ≡ spotStep t s .rest
-  pub laid : after ≡ sets before (placeOf t) (added level k t (spotStep t s))
+  pub laid : after ≡ sets before (placeOf t) (levelChars level k t (spotStep t s .digits))
 
 -- a polar place
 pub record Polar (p : Place) : Type 0 where
@@ -115,8 +93,8 @@ pub record LiesInColumn (k : ℕ) (p : Place) : Type 0 where
 
 -- the place's polar cell, by its two digits, and where the place stands in it
 pub record Begun (p : Place) (r : Step) : Type 0 where
-  pub first : r .column ≡ polarCellOf (squareOf p) / 4
-  pub second : r .row ≡ polarCellOf (squareOf p) % 4
+  pub first : r .digits .column ≡ polarCellOf (squareOf p) / 4
+  pub second : r .digits .row ≡ polarCellOf (squareOf p) % 4
   pub stands : r .rest ≡ spotIn (polarNode (p .north) (polarCellOf (squareOf p))) (squareOf p)
 
 -- what the writer is called with
@@ -129,4 +107,4 @@ pub record PolarWritable (level : ℕ) (p : Place) (line : List ℕ) : Type 0 wh
 -- the first two levels are written, as far as the level goes, and the place stands in its polar cell
 pub record SpotStarted (level : ℕ) (p : Place) (before after : List ℕ) (r : Spot) : Type 0 where
   pub stands : r ≡ spotIn (polarNode (p .north) (polarCellOf (squareOf p))) (squareOf p)
-  pub laid : after ≡ sets before 0 (codeOf (min 2 level) (squareOf p))
+  pub laid : after ≡ sets before 0 (codeOf (min level 2) (squareOf p))

@@ -1,7 +1,6 @@
 -- `reference::aim` meets its contract. Assumes nothing.
-use mathlib.Core.Path.{sym, _∙_, ap}
+use mathlib.Core.Path.{refl, sym, _∙_, ap}
 use Rattle.grid.specs.Answers.{planeRead}
-use Rattle.reference.specs.Text.{aimed, ledTo}
 use borrow.Author.Needs.{needs}
 use Rattle.reference.proofs.aim.Statement.{statement}
 use Rattle.reference.proofs.aim.Tie as tie
@@ -16,11 +15,10 @@ enum-known-base-2 : tie.Need-enum-known-base-2
 enum-known-base-2 c = search needs
 
 returns : tie.Need-returns
-returns c = let s = c .before .before .before .before in (c .offset-from .ensures .0 ∙ ap (λ x. ledTo (aimed (s .args .k) (s .args .h) (s .args .m) (s .args .n) (planeRead x))) (sym (c .before .before .base .given .1)), c .offset-from .ensures .1)
+returns c = (rw (c .before .before .base .given .1) (c .offset-from .ensures .0), c .offset-from .ensures .1)
 
 returns-2 : tie.Need-returns-2
-unfolding aimed
-returns-2 c = let s = c .before .before .before in (ap (λ x. ledTo (aimed (s .args .k) (s .args .h) (s .args .m) (s .args .n) (planeRead x))) (sym (c .before .base2 .given .1)), tt)
+returns-2 c = (rw (c .before .base2 .given .1) refl, tt)
 
 pub aim-spec : {M : Type 1} → statement M
 aim-spec =

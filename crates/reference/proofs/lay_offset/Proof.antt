@@ -1,7 +1,6 @@
 -- `reference::lay_offset` meets its contract. Assumes nothing.
-use mathlib.Core.Path.{sym, _∙_, ap, subst}
+use mathlib.Core.Path.{ap, subst}
 use Rattle.grid.proofs.Laying.{laid-refused}
-use Rattle.grid.specs.Laying.{laid}
 use Rattle.reference.specs.inner.Parts.{offsetText, Small}
 use borrow.Author.Needs.{needs}
 use Rattle.reference.proofs.lay_offset.Statement.{statement}
@@ -20,7 +19,7 @@ same-length : tie.Need-same-length
 same-length c = search needs
 
 returns : tie.Need-returns
-returns c = let s = c .before .before .before .before .before .before .before .before .before .args in c .before .before .lay .ensures ∙ ap (λ x. laid (offsetText x (s .base .now)) (s .line .now) (s .at)) (sym (c .before .before .before .before .before .o .given .1))
+returns c = rw (c .before .before .before .before .before .o .given .1) (c .before .before .lay .ensures)
 
 returns-2 : tie.Need-returns-2
 returns-2 c = let s = c .before .before .before .before .before .args in laid-refused (s .line .now) (s .at) (ap (λ x. offsetText x (s .base .now)) (c .before .o2 .given .1))

@@ -1,8 +1,5 @@
 -- `reference::offset_to` meets its contract. Assumes nothing.
-use mathlib.Core.Path.{_∙_, ap}
-use Rattle.grid.specs.Plane.{cellOf}
-use Rattle.grid.specs.Answers.{planeRead}
-use Rattle.reference.specs.Text.{related, referenceText}
+use Rattle.reference.specs.Text.{referenceText}
 use borrow.Author.Needs.{needs}
 use Rattle.reference.proofs.offset_to.Statement.{statement}
 use Rattle.reference.proofs.offset_to.Tie as tie
@@ -18,9 +15,7 @@ relate-requires c κs = search needs
 
 returns : tie.Need-returns
 unfolding referenceText
-returns c =
-    let s = c .before .before .before .before .before .args in
-    (c .relate .ensures .0 (s .base .now) ∙ ap (λ x. related (s .base .now) x (planeRead (c .before .read2 .result))) (c .before .before .read .ensures) ∙ ap (related (s .base .now) (cellOf (s .base .now))) (c .before .read2 .ensures), c .relate .ensures .1)
+returns c = (rw (← c .before .before .read .ensures, ← c .before .read2 .ensures) (c .relate .ensures .0 _), c .relate .ensures .1)
 
 pub offset-to-spec : {M : Type 1} → statement M
 offset-to-spec = tie.close (tie.spec read-requires read-requires-2 relate-requires returns)

@@ -1,8 +1,5 @@
 -- `reference::spans_to` meets its contract. Assumes nothing.
-use mathlib.Core.Path.{sym, _∙_, ap}
-use Rattle.grid.specs.Laying.{refuse}
-use Rattle.grid.specs.Answers.{accepted, planeRead}
-use Rattle.reference.specs.Text.{related}
+use mathlib.Core.Path.{refl}
 use borrow.Author.Needs.{needs}
 use Rattle.reference.proofs.spans_to.Statement.{statement}
 use Rattle.reference.proofs.spans_to.Tie as tie
@@ -16,16 +13,16 @@ spans-requires c κs = search needs
 enum-known-t-2 : tie.Need-enum-known-t-2
 enum-known-t-2 c = search needs
 
-second-requires : tie.Need-second-requires
-second-requires c κs = search needs
+about-requires : tie.Need-about-requires
+about-requires c κs = search needs
 
 returns : tie.Need-returns
-returns c = ((λ w. c .spans .ensures .0 w ∙ ap (λ x. related w (accepted (c .before .before .before .before .args .b)) (planeRead x)) (sym (c .before .before .t .given .1))), c .spans .ensures .1)
+returns c = ((λ w. rw (c .before .before .t .given .1) (c .spans .ensures .0 w)), c .spans .ensures .1)
 
 returns-2 : tie.Need-returns-2
-returns-2 c = ((λ w. ap refuse (c .second .ensures) ∙ ap (λ x. related w (accepted (c .before .before .before .before .args .b)) (planeRead x)) (sym (c .before .before .t2 .given .1))), tt)
+returns-2 c = ((λ w. rw (c .before .before .t2 .given .1, c .about .ensures) refl), tt)
 
 pub spans-to-spec : {M : Type 1} → statement M
 spans-to-spec =
     tie.close
-    (tie.spec enum-known-t spans-requires enum-known-t-2 second-requires returns returns-2)
+    (tie.spec enum-known-t spans-requires enum-known-t-2 about-requires returns returns-2)

@@ -1,6 +1,4 @@
 -- `reference::write` meets its contract. Assumes nothing.
-use mathlib.Core.Path.{_∙_, ap}
-use Rattle.grid.specs.Laying.{Text, laid}
 use borrow.Author.Needs.{needs}
 use Rattle.reference.proofs.write.Statement.{statement}
 use Rattle.reference.proofs.write.Tie as tie
@@ -15,7 +13,7 @@ same-length : tie.Need-same-length
 same-length c = search needs
 
 returns : tie.Need-returns
-returns c = let s = c .before .before .before .before .before .before .before .before .args in c .before .before .lay-offset .ensures ∙ ap (λ (t : Text). laid t (s .line .now) (s .at)) (c .before .before .before .before .offset-to .ensures .0)
+returns c = rw (← c .before .before .before .before .offset-to .ensures .0) (c .before .before .lay-offset .ensures)
 
 pub write-spec : {M : Type 1} → statement M
 write-spec = tie.close (tie.spec offset-to-requires lay-offset-requires same-length returns)

@@ -1,5 +1,5 @@
 -- `space::over_layers` meets its contract. Assumes nothing.
-use mathlib.Core.Path.{refl, _∙_}
+use mathlib.Core.Path.{refl}
 use mir.Syntax.{w32}
 use mir.Facts.{toZ-ofZ}
 use borrow.Author.Needs.{needs}
@@ -18,8 +18,8 @@ enum-known-a-2 c = search needs
 plane-place-requires : tie.Need-plane-place-requires
 plane-place-requires c κs = search needs
 
-bad-at-requires : tie.Need-bad-at-requires
-bad-at-requires c κs = search needs
+at-place-requires : tie.Need-at-place-requires
+at-place-requires c κs = search needs
 
 returns : tie.Need-returns
 returns c =
@@ -30,7 +30,7 @@ returns c =
     ) refl
 
 returns-2 : tie.Need-returns-2
-returns-2 c = c .bad-at .ensures ∙ rw (c .before .plane-place .ensures, c .before .before .before .a2 .given .1) refl
+returns-2 c = rw (c .at-place .ensures, c .before .plane-place .ensures, c .before .before .before .a2 .given .1) refl
 
 pub over-layers-spec : {M : Type 1} → statement M
 over-layers-spec =
@@ -40,6 +40,6 @@ over-layers-spec =
     floor-requires
     enum-known-a-2
     plane-place-requires
-    bad-at-requires
+    at-place-requires
     returns
     returns-2)

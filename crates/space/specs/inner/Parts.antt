@@ -2,15 +2,17 @@
 -- Assumes nothing.
 use mathlib.Core.Bool.{true, false, cond}
 use mathlib.Core.List.{List, [], _∷_, map}
-use Prim.Native.Nat.{ℕ, zero, suc, _<_, min}
+use Prim.Native.Nat.{ℕ, zero, suc, _<_}
 use lib.Dec.{ltb}
 use lib.ListN.{getD}
+use Rattle.grid.specs.declared.Refusal.{Refusal}
 use Rattle.grid.specs.declared.Split.{Split}
 use Rattle.grid.specs.declared.SpaceCell.{SpaceCell}
 use Rattle.grid.specs.declared.Cell.{Cell}
 use Rattle.grid.specs.Splits.{splits}
 use Rattle.grid.specs.Codes.{placeIn}
-use Rattle.grid.specs.Answers.{Answer, accepted, refused, wrongCharacter}
+use Rattle.grid.specs.Answers.{Answer, accepted, refused}
+use Rattle.grid.specs.inner.Roads.{atPlace}
 use Rattle.grid.specs.Layers.{radices, product, Stack, floorOf, thicknessOf}
 use Rattle.grid.specs.Space.{spaceLengths}
 use Rattle.plane.specs.inner.Lengths.{orZero}
@@ -57,15 +59,27 @@ planePlace p = cond (ltb p 20) (placeOne tenStrands p) 0
 unfoldable pub heightPlace : ℕ → ℕ
 heightPlace p = cond (ltb p 12) (placeTwo tenStrands p) 0
 
+-- of two refusals, the one whose character stands first
+abbrev pub earlier : Refusal → Refusal → Refusal
+earlier r q = cond (ltb (r .place) (q .place)) r q
+
+-- a refusal of the plane characters, and one of the height characters, at its place in the space code
+abbrev pub ofPlane : Refusal → Refusal
+ofPlane r = atPlace (planePlace (r .place)) r
+
+-- of the height characters
+abbrev pub ofHeight : Refusal → Refusal
+ofHeight q = atPlace (heightPlace (q .place)) q
+
 -- the answers of the plane reader and of the height reader together: the cell with its layers, or the first bad character of either
 abbrev pub joinedAnswer : Answer Cell → Answer Stack → Answer SpaceCell
 joinedAnswer (accepted c) (accepted m) =
     accepted (record { cell = c; floor = floorOf (product radices) m; thickness = thicknessOf (product radices) m })
-joinedAnswer (accepted c) (refused q) = refused (wrongCharacter (heightPlace (q .place)))
-joinedAnswer (refused r) (accepted m) = refused (wrongCharacter (planePlace (r .place)))
-joinedAnswer (refused r) (refused q) = refused (wrongCharacter (min (planePlace (r .place)) (heightPlace (q .place))))
+joinedAnswer (accepted c) (refused q) = refused (ofHeight q)
+joinedAnswer (refused r) (accepted m) = refused (ofPlane r)
+joinedAnswer (refused r) (refused q) = refused (earlier (ofPlane r) (ofHeight q))
 
 -- layers that were read lie in their range
 abbrev pub Lying : LayersRead → Type 0
 Lying (layers.Found above low thick) = low < product radices
-Lying (layers.Bad p) = Unit {0}
+Lying (layers.Refused q) = Unit {0}

@@ -1,8 +1,9 @@
 -- `layers::Height::next` meets its contract. Assumes nothing.
 use Prim.Native.Nat.{_+_}
 use native.Mathlib.Omega.{arith}
-use Rattle.layers.proofs.Reading.{marked, unmarked, upto-ended, upto-bad, upto-refused, upto-fits, upto-read}
+use Rattle.layers.proofs.Reading.{upto-ended, upto-bad, upto-refused, upto-fits, upto-read}
 use Rattle.layers.proofs.Radices.{later-radix}
+use borrow.Author.Tests.{not-true, not-false}
 use borrow.Author.Needs.{needs}
 use Rattle.layers.proofs.Height.next.Statement.{statement}
 use Rattle.layers.proofs.Height.next.Tie as tie
@@ -15,7 +16,7 @@ returns c =
 returns-2 : tie.Need-returns-2
 returns-2 c =
     let s = c .before .before .before .before in
-    upto-bad (s .args .t2) (s .args .level) (s .args .k) (s .args .digits .now) (s .pre .0) (s .pre .1) (s .pre .2) (s .pre .3) (unmarked (s .args .self .good) (c .if2 .taken)) (s .pre .4)
+    upto-bad (s .args .t2) (s .args .level) (s .args .k) (s .args .digits .now) (s .pre .0) (s .pre .1) (s .pre .2) (s .pre .3) (not-true (s .args .self .good) (c .if2 .taken)) (s .pre .4)
 
 mul-digit-below : tie.Need-mul-digit-below
 mul-digit-below c = search needs
@@ -47,7 +48,7 @@ refused-requires c κs = search needs
 returns-3 : tie.Need-returns-3
 returns-3 c =
     let s = c .before .before .before .before .before .before .before .before in
-    upto-refused (s .args .t2) (s .args .level) (s .args .k) (s .args .digits .now) (s .pre .0) (s .pre .1) (s .pre .2) (s .pre .3) (c .before .before .before .before .before .before .if1 .left) (marked (s .args .self .good) (c .before .before .before .before .if2 .left)) (s .pre .4) (c .before .before .digit-below .ensures) (c .before .if3 .taken) (c .refused .ensures)
+    upto-refused (s .args .t2) (s .args .level) (s .args .k) (s .args .digits .now) (s .pre .0) (s .pre .1) (s .pre .2) (s .pre .3) (c .before .before .before .before .before .before .if1 .left) (not-false (s .args .self .good) (c .before .before .before .before .if2 .left)) (s .pre .4) (c .before .before .digit-below .ensures) (c .before .if3 .taken) (c .refused .ensures)
 
 add-thickness : tie.Need-add-thickness
 add-thickness c = search needs
@@ -61,19 +62,19 @@ add-t9 c = search needs
 mul-t13 : tie.Need-mul-t13
 mul-t13 c =
     let s = c .before .before .before .before .before .before .before .before in
-    let f = upto-fits (s .args .t2) (s .args .level) (s .args .k) (s .args .digits .now) (s .pre .0) (s .pre .1) (s .pre .2) (s .pre .3) (c .before .before .before .before .before .before .if1 .left) (marked (s .args .self .good) (c .before .before .before .before .if2 .left)) (s .pre .4) _ (c .thickness .ensures) _ (c .before .before .digit-below .ensures) (c .before .if3 .left) in
+    let f = upto-fits (s .args .t2) (s .args .level) (s .args .k) (s .args .digits .now) (s .pre .0) (s .pre .1) (s .pre .2) (s .pre .3) (c .before .before .before .before .before .before .if1 .left) (not-false (s .args .self .good) (c .before .before .before .before .if2 .left)) (s .pre .4) _ (c .thickness .ensures) _ (c .before .before .digit-below .ensures) (c .before .if3 .left) in
     omega arith
 
 add-t21 : tie.Need-add-t21
 add-t21 c =
     let s = c .before .before .before .before .before .before .before .before .before in
-    let f = upto-fits (s .args .t2) (s .args .level) (s .args .k) (s .args .digits .now) (s .pre .0) (s .pre .1) (s .pre .2) (s .pre .3) (c .before .before .before .before .before .before .before .if1 .left) (marked (s .args .self .good) (c .before .before .before .before .before .if2 .left)) (s .pre .4) _ (c .before .thickness .ensures) _ (c .before .before .before .digit-below .ensures) (c .before .before .if3 .left) in
+    let f = upto-fits (s .args .t2) (s .args .level) (s .args .k) (s .args .digits .now) (s .pre .0) (s .pre .1) (s .pre .2) (s .pre .3) (c .before .before .before .before .before .before .before .if1 .left) (not-false (s .args .self .good) (c .before .before .before .before .before .if2 .left)) (s .pre .4) _ (c .before .thickness .ensures) _ (c .before .before .before .digit-below .ensures) (c .before .before .if3 .left) in
     omega arith
 
 returns-4 : tie.Need-returns-4
 returns-4 c =
     let s = c .before .before .before .before .before .before .before .before .before in
-    upto-read (s .args .t2) (s .args .level) (s .args .k) (s .args .digits .now) (s .pre .0) (s .pre .1) (s .pre .2) (s .pre .3) (c .before .before .before .before .before .before .before .if1 .left) (marked (s .args .self .good) (c .before .before .before .before .before .if2 .left)) (s .pre .4) _ (c .before .thickness .ensures) _ (c .before .before .before .digit-below .ensures) (c .before .before .if3 .left) (s .args .k + 3)
+    upto-read (s .args .t2) (s .args .level) (s .args .k) (s .args .digits .now) (s .pre .0) (s .pre .1) (s .pre .2) (s .pre .3) (c .before .before .before .before .before .before .before .if1 .left) (not-false (s .args .self .good) (c .before .before .before .before .before .if2 .left)) (s .pre .4) _ (c .before .thickness .ensures) _ (c .before .before .before .digit-below .ensures) (c .before .before .if3 .left) (s .args .k + 3)
 
 pub next-spec : {M : Type 1} → statement M
 next-spec =

@@ -1,14 +1,12 @@
--- `reference::goal` meets its contract. Assumes nothing.
-use mathlib.Core.Path.{sym, _∙_, ap}
-use Prim.Native.Nat.{_+_, _-_}
+-- `reference::goal_of` meets its contract. Assumes nothing.
+use mathlib.Core.Path.{sym}
 use native.Mathlib.Omega.{arith}
-use lib.ListN.{length, getD}
 use lib.Seq.{length-take-le}
-use Rattle.reference.specs.Text.{aimed, ledTo, targetText}
+use Rattle.reference.specs.Text.{targetText}
 use Rattle.reference.proofs.Spelling.{too-short}
 use borrow.Author.Needs.{needs}
-use Rattle.reference.proofs.goal.Statement.{statement}
-use Rattle.reference.proofs.goal.Tie as tie
+use Rattle.reference.proofs.goal_of.Statement.{statement}
+use Rattle.reference.proofs.goal_of.Tie as tie
 
 refuse-requires : tie.Need-refuse-requires
 refuse-requires c κs = search needs
@@ -42,13 +40,10 @@ aim-requires c κs = search needs
 
 returns-2 : tie.Need-returns-2
 unfolding targetText
-returns-2 c =
-    let w = c .before .before .before .before .before .before .before .before .args .code .now in
-    let k = length w - 3 in
-    (c .aim .ensures .0 ∙ ap (λ x. ledTo (aimed k (getD w k 0) (getD w (k + 1) 0) (getD w (k + 2) 0) x)) (c .before .before .before .before .read .ensures), c .aim .ensures .1)
+returns-2 c = (rw (← c .before .before .before .before .read .ensures) (c .aim .ensures .0), c .aim .ensures .1)
 
-pub goal-spec : {M : Type 1} → statement M
-goal-spec =
+pub goal-of-spec : {M : Type 1} → statement M
+goal-of-spec =
     tie.close
     (tie.spec
     refuse-requires
