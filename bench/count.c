@@ -16,7 +16,7 @@
 enum { MANY = 256, STACK = 1 << 16, PAINT = 0xA5 };
 
 typedef struct {
-    int64_t level, longitude, latitude, layer;
+    int64_t edition, level, longitude, latitude, layer;
     uint8_t code[40], target[40];
     size_t length, target_length;
     double x, y;
@@ -32,6 +32,7 @@ static void need(int good, const char *what) {
 
 static void place(input *i, int64_t level, int polar) {
     int64_t latitude = polar ? between(648806400, 663551999) : between(0, 648806399);
+    i->edition = 1;
     i->level = level;
     i->longitude = between(-1327104000, 1327103999);
     i->latitude = dice() % 2 ? latitude : -1 - latitude;
@@ -47,9 +48,16 @@ static void plane_code(input *i) {
 }
 
 static void space_code(input *i) {
-    hg_written w = hg_space_write(i->level, i->longitude, i->latitude, i->layer, i->code, sizeof i->code, 0);
+    hg_written w = hg_space_write(i->edition, i->level, i->longitude, i->latitude, i->layer, i->code, sizeof i->code, 0);
     need(w.refusal.number == 0, "a space code was refused");
     i->length = w.length;
+}
+
+/* the same square in edition 2, with one of its layers */
+static void space_code_2(input *i) {
+    i->edition = 2;
+    i->layer = between(HG_LAYER_LEAST_2, HG_LAYER_GREATEST_2);
+    space_code(i);
 }
 
 /* a reference code of levels 5 to 10 with offsets of up to 7 cells, and its target; from 87 degrees on a target may be polar, so below it */
@@ -71,6 +79,8 @@ static void polar_10(input *i) { place(i, 10, 1), plane_code(i); }
 static void space_10(input *i) { place(i, 10, 0), space_code(i); }
 static void space_5(input *i) { place(i, 5, 0), space_code(i); }
 static void polar_space_10(input *i) { place(i, 10, 1), space_code(i); }
+static void space_2_10(input *i) { place(i, 10, 0), space_code_2(i); }
+static void space_2_5(input *i) { place(i, 5, 0), space_code_2(i); }
 
 /* ---- calls; each notes where the stack stands before it */
 
@@ -81,9 +91,13 @@ static volatile uint32_t seen;
 static void plane_write(input *i) { NOTE(); seen += hg_plane_write(i->level, i->longitude, i->latitude, i->target, sizeof i->target, 0).refusal.number; }
 static void plane_read(input *i) { NOTE(); seen += hg_plane_read(i->code, i->length).refusal.number; }
 static void plane_box(input *i) { NOTE(); seen += hg_plane_box(i->code, i->length).refusal.number; }
-static void space_write(input *i) { NOTE(); seen += hg_space_write(i->level, i->longitude, i->latitude, i->layer, i->target, sizeof i->target, 0).refusal.number; }
-static void space_read(input *i) { NOTE(); seen += hg_space_read(i->code, i->length).refusal.number; }
+static void space_read(input *i) { NOTE(); seen += hg_space_read(i->edition, i->code, i->length).refusal.number; }
 static void arcseconds(input *i) { NOTE(); seen += hg_arcseconds(i->x, i->y).refusal.number; }
+
+static void space_write(input *i) {
+    NOTE();
+    seen += hg_space_write(i->edition, i->level, i->longitude, i->latitude, i->layer, i->target, sizeof i->target, 0).refusal.number;
+}
 
 static void reference_write(input *i) {
     uint8_t line[40];
@@ -117,6 +131,10 @@ static const struct {
     {"space read, level 5", space_5, space_read},
     {"polar space write, level 10", polar_space_10, space_write},
     {"polar space read, level 10", polar_space_10, space_read},
+    {"space write, edition 2, level 10", space_2_10, space_write},
+    {"space write, edition 2, level 5", space_2_5, space_write},
+    {"space read, edition 2, level 10", space_2_10, space_read},
+    {"space read, edition 2, level 5", space_2_5, space_read},
     {"reference write, levels 5 to 10", reference_code, reference_write},
     {"reference read, levels 5 to 10", reference_code, reference_read},
     {"arcseconds", plane_10, arcseconds},

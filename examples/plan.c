@@ -1,4 +1,4 @@
-/* A worked example: the cell that a flight over a tower holds, and its neighbour, from a receiver's arc-seconds.
+/* A worked example: the cell that a flight over a tower holds, and its neighbour, from a receiver's arc-seconds; and an altimeter's code.
  *
  *     cc -I ../target/hailgully plan.c ../target/hailgully/libhailgully.a -o plan && ./plan
  */
@@ -18,13 +18,13 @@ int main(void) {
     if (refused("position", at.refusal)) return 1;
     printf("position %d %d\n", (int)at.longitude, (int)at.latitude);
 
-    /* The space code of level 6 (2 seconds) at layer 1,000. */
+    /* The space code of edition 1 and level 6 (2 seconds) at layer 1,000. */
     uint8_t line[64] = "held: ";
-    hg_written w = hg_space_write(6, at.longitude, at.latitude, 1000, line, sizeof line, 6);
+    hg_written w = hg_space_write(1, 6, at.longitude, at.latitude, 1000, line, sizeof line, 6);
     if (refused("space code", w.refusal)) return 1;
     printf("%.*s\n", (int)(6 + w.length), (const char *)line);
 
-    hg_space_cell cell = hg_space_read(line + 6, w.length);
+    hg_space_cell cell = hg_space_read(1, line + 6, w.length);
     if (refused("space cell", cell.refusal)) return 1;
     printf("level %u from %d %d, %u by %u units, layers %d to %lld\n", (unsigned)cell.level, (int)cell.west, (int)cell.south,
            (unsigned)cell.width, (unsigned)cell.height, (int)cell.floor, (long long)cell.floor + cell.thickness - 1);
@@ -37,6 +37,13 @@ int main(void) {
     hg_written r = hg_reference_write(base, b.length, east, e.length, reference, sizeof reference, 0);
     if (refused("reference", r.refusal)) return 1;
     printf("neighbour %.*s\n", (int)r.length, (const char *)reference);
+
+    /* An altimeter that cuts layers by bits sends codes of edition 2. In edition 1 this one is refused at its F; others are read as other layers. */
+    const uint8_t *sent = (const uint8_t *)"N050J0047050390B8F";
+    hg_space_cell theirs = hg_space_read(2, sent, 18), ours = hg_space_read(1, sent, 18);
+    if (refused("altimeter", theirs.refusal)) return 1;
+    printf("altimeter: layers %d to %lld\n", (int)theirs.floor, (long long)theirs.floor + theirs.thickness - 1);
+    refused("in edition 1", ours.refusal);
 
     /* A code that was heard wrong: the board shows where. */
     hg_plane_cell bad = hg_plane_read((const uint8_t *)"N61A", 4);

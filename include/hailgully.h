@@ -3,6 +3,10 @@
  * A unit is 1/2048 arc-second; one degree is 7,372,800 units. A position names a unit square by its west and south corner. The ranges of
  * longitude, latitude, layer and level are the constants below. docs/GRID.md has the rules, with pictures.
  *
+ * Space codes have two editions, which make height characters of a layer in two ways, and the caller names one by its number: 1 is the grid's own;
+ * 2 cuts the layer by bits, as annex C.14 of the standard does, with F as a digit and a layer range of its own. Nothing in a code says its edition:
+ * every code of edition 1 can be read in edition 2 too, mostly as other layers.
+ *
  * Every call takes any numbers and any bytes, and answers with a result or with exactly one refusal. Nothing is clipped.
  * A refusal's number says why (the enum below). Its place is the first bad character, counted from 0, for HG_CHARACTER, else 0. Its ordinal is 2
  * where HG_LENGTH or HG_CHARACTER speaks of a second code, else 1. On a refusal every other field is 0, and no byte that was lent is changed.
@@ -34,7 +38,7 @@ enum {
     HG_LEVEL = 1,           /* level outside 1 to 10 */
     HG_LONGITUDE = 2,       /* longitude outside its range (either infinity too) */
     HG_LATITUDE = 3,        /* latitude outside its range (either infinity too) */
-    HG_LAYER = 4,           /* layer outside its range */
+    HG_LAYER = 4,           /* layer outside its range, which is the edition's */
     HG_ROOM = 5,            /* from the place given, the line lacks bytes for the whole code; a place past the end counts as none */
     HG_LENGTH = 6,          /* a code's length is none of its kind */
     HG_CHARACTER = 7,       /* a character is not allowed at its place, given those before it */
@@ -42,10 +46,11 @@ enum {
     HG_LEVELS_DIFFER = 9,   /* base and target levels differ */
     HG_OFFSET = 10,         /* either offset is beyond 7 */
     HG_NOT_A_NUMBER = 11,   /* either arc-second reading is not a number */
-    HG_POLAR_TARGET = 12    /* a reference read leads to 88 degrees or nearer a pole */
+    HG_POLAR_TARGET = 12,   /* a reference read leads to 88 degrees or nearer a pole */
+    HG_EDITION = 13         /* edition neither 1 nor 2 */
 };
 
-/* Ranges, in units and layers; each end belongs to its range. */
+/* Ranges, in units and layers; each end belongs to its range. Layers are those of edition 1, and with a 2 behind them those of edition 2. */
 #define HG_DEGREE INT64_C(7372800)
 #define HG_LONGITUDE_LEAST INT64_C(-1327104000)
 #define HG_LONGITUDE_GREATEST INT64_C(1327103999)
@@ -53,6 +58,8 @@ enum {
 #define HG_LATITUDE_GREATEST INT64_C(663551999)
 #define HG_LAYER_LEAST INT64_C(-1887436800)
 #define HG_LAYER_GREATEST INT64_C(1887436799)
+#define HG_LAYER_LEAST_2 INT64_C(-2147483648)
+#define HG_LAYER_GREATEST_2 INT64_C(2147483647)
 #define HG_LEVEL_LEAST INT64_C(1)
 #define HG_LEVEL_GREATEST INT64_C(10)
 
@@ -98,13 +105,13 @@ hg_written hg_plane_write(int64_t level, int64_t longitude, int64_t latitude, ui
  * Example: N31A is level 1, west 0, south 0, width 44236800, height 29491200. */
 hg_plane_cell hg_plane_read(const uint8_t *code, size_t length);
 
-/* Writes the space code of a level for a position and a layer. Refusals, in order: 1, 2, 3, 4, 5.
- * Example: level 1 at (0, 0), layer -1, is N131A63. */
-hg_written hg_space_write(int64_t level, int64_t longitude, int64_t latitude, int64_t layer, uint8_t *line, size_t length, size_t at);
+/* Writes the space code of an edition and a level for a position and a layer. Refusals, in order: 1, 13, 2, 3, 4, 5.
+ * Example: level 4 at (0, 0), layer 1966080, is N031A0000001001 in edition 1 and N031A000000000F in edition 2. */
+hg_written hg_space_write(int64_t edition, int64_t level, int64_t longitude, int64_t latitude, int64_t layer, uint8_t *line, size_t length, size_t at);
 
-/* Reads a space code. Refusals, in order: 6, 7. The floor is the lower face.
- * Example: N131A63 is N31A's cell with floor -29491200 and thickness 29491200. */
-hg_space_cell hg_space_read(const uint8_t *code, size_t length);
+/* Reads a space code of an edition. Refusals, in order: 13, 6, 7. The floor is the lower face.
+ * Example: N131A63 is N31A's cell with floor -29491200 and thickness 29491200 in edition 1, -33554432 and 33554432 in edition 2. */
+hg_space_cell hg_space_read(int64_t edition, const uint8_t *code, size_t length);
 
 /* Writes the reference code that leads from a base code to a target code. Refusals, in order: 6, 7 of the base; 6, 7 of the target; 8, 9, 10, 5.
  * Example: from N50J475492E to N50J475493E is N50J475492E-10. */

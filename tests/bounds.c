@@ -57,7 +57,7 @@ static uint8_t *lend(int arena, const uint8_t *bytes, size_t n) {
 static void readers(const uint8_t *code, size_t n) {
     uint8_t *c = lend(CODE, code, n);
     count(hg_plane_read(c, n).refusal);
-    count(hg_space_read(c, n).refusal);
+    for (int64_t edition = 1; edition <= 3; edition++) count(hg_space_read(edition, c, n).refusal);
     count(hg_plane_box(c, n).refusal);
     size_t room = (size_t)between(0, 24);
     uint8_t *line = lend(LINE, NULL, room);
@@ -76,10 +76,10 @@ static void longer(const uint8_t *code, size_t n) {
     accepted += calls - refused - before;
 }
 
-static void writers(int64_t level, int64_t longitude, int64_t latitude, int64_t layer) {
+static void writers(int64_t edition, int64_t level, int64_t longitude, int64_t latitude, int64_t layer) {
     uint8_t code[64];
     memset(code, '0', sizeof code);
-    hg_written w = hg_space_write(level, longitude, latitude, layer, code, sizeof code, 0);
+    hg_written w = hg_space_write(edition, level, longitude, latitude, layer, code, sizeof code, 0);
     count(w.refusal);
     if (w.refusal.number == 0) {
         readers(code, w.length);
@@ -99,7 +99,7 @@ static void writers(int64_t level, int64_t longitude, int64_t latitude, int64_t 
         uint8_t *line = lend(LINE, NULL, room);
         size_t at = dice() % 8 ? (size_t)between(0, 34) : SIZE_MAX - (size_t)between(0, 40);
         count(hg_plane_write(level, longitude, latitude, line, room, at).refusal);
-        count(hg_space_write(level, longitude, latitude, layer, line, room, at).refusal);
+        count(hg_space_write(edition, level, longitude, latitude, layer, line, room, at).refusal);
     }
 }
 
@@ -111,7 +111,8 @@ int main(int words, char **word) {
         int polar = dice() % 3 == 0;
         int64_t latitude = polar ? between(648806400, 663551999) : between(-664000000, 664000000);
         if (dice() % 2) latitude = -1 - latitude;
-        writers(between(0, 11), between(-1327104001, 1327104000), latitude, between(-1887436801, 1887436800));
+        int64_t edition = dice() % 8 ? between(1, 2) : between(-1, 4);
+        writers(edition, between(0, 11), between(-1327104001, 1327104000), latitude, between(HG_LAYER_LEAST_2 - 1, HG_LAYER_GREATEST_2 + 1));
         count(hg_arcseconds((double)between(-1400000000, 1400000000) / 2048.0, (double)between(-700000000, 700000000) / 2048.0).refusal);
     }
     printf("%lu calls, %lu refused, %lu accepted a long code\n", calls, refused, accepted);

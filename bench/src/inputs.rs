@@ -30,6 +30,8 @@ impl Dice {
 
 #[derive(Clone, Copy)]
 pub struct Position {
+    /// Of its space code.
+    pub edition: i64,
     pub level: i64,
     pub longitude: i64,
     pub latitude: i64,
@@ -40,7 +42,7 @@ impl Position {
     fn any(dice: &mut Dice, level: i64, latitude: i64) -> Position {
         let longitude = dice.between(-1_327_104_000, 1_327_103_999);
         let layer = dice.between(-1_887_436_800, 1_887_436_799);
-        Position { level, longitude, latitude, layer }
+        Position { edition: 1, level, longitude, latitude, layer }
     }
 
     pub fn ordinary(dice: &mut Dice, level: i64) -> Position {
@@ -52,6 +54,11 @@ impl Position {
         let index = dice.between(648_806_400, 663_551_999);
         let latitude = if dice.next().is_multiple_of(2) { index } else { -1 - index };
         Position::any(dice, level, latitude)
+    }
+
+    /// The same square with a layer of edition 2.
+    pub fn in_edition_2(self, dice: &mut Dice) -> Position {
+        Position { edition: 2, layer: dice.between(-2_147_483_648, 2_147_483_647), ..self }
     }
 }
 
@@ -76,7 +83,7 @@ impl Code {
     }
 
     pub fn space(p: &Position) -> Code {
-        Code::written(|line| ffi::space_write(p.level, p.longitude, p.latitude, p.layer, line, 0))
+        Code::written(|line| ffi::space_write(p.edition, p.level, p.longitude, p.latitude, p.layer, line, 0))
     }
 
     #[inline(always)]

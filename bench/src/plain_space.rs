@@ -1,4 +1,5 @@
-//! Space codes as a careful Rust programmer would write them by hand: one pass, each level's plane characters and then its height character.
+//! Space codes as a careful Rust programmer would write them by hand: one pass, each level's plane characters and then its height character. Both
+//! editions are compiled from one text, edition 1 into divisions by constants, edition 2 into shifts.
 
 use crate::plain::{cell, hex, index, value, Refusal, REFUSED_POLAR};
 
@@ -10,14 +11,96 @@ pub struct Cell {
 }
 
 const LENGTHS: [usize; 11] = [0, 7, 10, 12, 15, 18, 20, 23, 26, 29, 32];
-const THICKNESSES: [u32; 11] = [0, 29_491_200, 3_686_400, 1_843_200, 122_880, 8_192, 4_096, 512, 64, 8, 1];
-const DEPTH: u32 = 1_887_436_800;
+
+/// How an edition makes digits of a layer. Where a level is given, it is a constant to the compiler.
+trait Edition {
+    /// How many digits each level has.
+    const DIGITS: [u32; 11];
+    const THICKNESSES: [u32; 11];
+    const LEAST: i64;
+    const GREATEST: i64;
+    /// The height of a layer in its range, of which the digits are made.
+    fn height(layer: i64) -> u32;
+    /// A level's digit.
+    fn digit(height: u32, level: usize) -> u32;
+    /// What a level's digit adds to the height.
+    fn part(digit: u32, level: usize) -> u32;
+    /// The lowest layer of what was read.
+    fn floor(below: bool, height: u32) -> i32;
+}
+
+struct Edition1;
+
+impl Edition for Edition1 {
+    const DIGITS: [u32; 11] = [2, 64, 8, 2, 15, 15, 2, 8, 8, 8, 8];
+    const THICKNESSES: [u32; 11] = [0, 29_491_200, 3_686_400, 1_843_200, 122_880, 8_192, 4_096, 512, 64, 8, 1];
+    const LEAST: i64 = -1_887_436_800;
+    const GREATEST: i64 = 1_887_436_799;
+
+    #[inline(always)]
+    fn height(layer: i64) -> u32 {
+        (if layer < 0 { layer - Self::LEAST } else { layer }) as u32
+    }
+
+    #[inline(always)]
+    fn digit(height: u32, level: usize) -> u32 {
+        height / Self::THICKNESSES[level] % Self::DIGITS[level]
+    }
+
+    #[inline(always)]
+    fn part(digit: u32, level: usize) -> u32 {
+        digit * Self::THICKNESSES[level]
+    }
+
+    #[inline(always)]
+    fn floor(below: bool, height: u32) -> i32 {
+        if below {
+            height as i32 + Self::LEAST as i32
+        } else {
+            height as i32
+        }
+    }
+}
+
+struct Edition2;
+
+impl Edition2 {
+    /// How many bits are below each level's digit.
+    const BELOW: [u32; 11] = [31, 25, 22, 21, 17, 13, 12, 9, 6, 3, 0];
+}
+
+impl Edition for Edition2 {
+    const DIGITS: [u32; 11] = [2, 64, 8, 2, 16, 16, 2, 8, 8, 8, 8];
+    const THICKNESSES: [u32; 11] = [0, 1 << 25, 1 << 22, 1 << 21, 1 << 17, 1 << 13, 1 << 12, 1 << 9, 1 << 6, 1 << 3, 1];
+    const LEAST: i64 = -2_147_483_648;
+    const GREATEST: i64 = 2_147_483_647;
+
+    #[inline(always)]
+    fn height(layer: i64) -> u32 {
+        layer as u32
+    }
+
+    #[inline(always)]
+    fn digit(height: u32, level: usize) -> u32 {
+        height >> Self::BELOW[level] & (Self::DIGITS[level] - 1)
+    }
+
+    #[inline(always)]
+    fn part(digit: u32, level: usize) -> u32 {
+        digit << Self::BELOW[level]
+    }
+
+    #[inline(always)]
+    fn floor(below: bool, height: u32) -> i32 {
+        (height | u32::from(below) << 31) as i32
+    }
+}
 
 fn refuse(number: u32) -> Result<usize, Refusal> {
     Err(Refusal::new(number, 0))
 }
 
-/// A position as its quarter and its outward indices; h is the layer counted from 0 or from the lowest one.
+/// A position as its quarter and its outward indices; h is the layer's height in its edition.
 struct Place {
     west: bool,
     south: bool,
@@ -28,10 +111,10 @@ struct Place {
 }
 
 #[inline(always)]
-fn put_first(p: &Place, out: &mut [u8]) {
+fn put_first<E: Edition>(p: &Place, out: &mut [u8]) {
     let c = p.x / 44_236_800;
     let z = if p.west { 30 - c } else { 31 + c };
-    let top = p.h / 29_491_200;
+    let top = E::digit(p.h, 1);
     out[0] = if p.south { b'S' } else { b'N' };
     out[1] = if p.below { b'1' } else { b'0' };
     out[2] = (48 + z / 10) as u8;
@@ -56,53 +139,51 @@ fn put_two(out: &mut [u8], place: usize, x: u32, y: u32, h: u32) {
 
 /// The characters after the checks; `out` has room for the level's length.
 #[inline(always)]
-fn put(level: usize, p: &Place, out: &mut [u8]) {
+fn put<E: Edition>(level: usize, p: &Place, out: &mut [u8]) {
     let out = &mut out[..LENGTHS[level]];
     let (x, y, h) = (p.x, p.y, p.h);
-    put_first(p, out);
+    put_first::<E>(p, out);
     if level < 2 {
         return;
     }
-    put_three(out, 7, x / 3_686_400 % 12, y / 3_686_400 % 8, h / 3_686_400 % 8);
+    put_three(out, 7, x / 3_686_400 % 12, y / 3_686_400 % 8, E::digit(h, 2));
     if level < 3 {
         return;
     }
-    put_two(out, 10, x / 1_843_200 % 2, y / 1_228_800 % 3, h / 1_843_200 % 2);
+    put_two(out, 10, x / 1_843_200 % 2, y / 1_228_800 % 3, E::digit(h, 3));
     if level < 4 {
         return;
     }
-    put_three(out, 12, x / 122_880 % 15, y / 122_880 % 10, h / 122_880 % 15);
+    put_three(out, 12, x / 122_880 % 15, y / 122_880 % 10, E::digit(h, 4));
     if level < 5 {
         return;
     }
-    put_three(out, 15, x / 8_192 % 15, y / 8_192 % 15, h / 8_192 % 15);
+    put_three(out, 15, x / 8_192 % 15, y / 8_192 % 15, E::digit(h, 5));
     if level < 6 {
         return;
     }
-    put_two(out, 18, x / 4_096 % 2, y / 4_096 % 2, h / 4_096 % 2);
+    put_two(out, 18, x / 4_096 % 2, y / 4_096 % 2, E::digit(h, 6));
     if level < 7 {
         return;
     }
-    put_three(out, 20, x / 512 % 8, y / 512 % 8, h / 512 % 8);
+    put_three(out, 20, x / 512 % 8, y / 512 % 8, E::digit(h, 7));
     if level < 8 {
         return;
     }
-    put_three(out, 23, x / 64 % 8, y / 64 % 8, h / 64 % 8);
+    put_three(out, 23, x / 64 % 8, y / 64 % 8, E::digit(h, 8));
     if level < 9 {
         return;
     }
-    put_three(out, 26, x / 8 % 8, y / 8 % 8, h / 8 % 8);
+    put_three(out, 26, x / 8 % 8, y / 8 % 8, E::digit(h, 9));
     if level < 10 {
         return;
     }
-    put_three(out, 29, x % 8, y % 8, h % 8);
+    put_three(out, 29, x % 8, y % 8, E::digit(h, 10));
 }
 
-#[inline(never)]
-pub fn write(level: i64, longitude: i64, latitude: i64, layer: i64, line: &mut [u8], at: usize) -> Result<usize, Refusal> {
-    if !(1..=10).contains(&level) {
-        return refuse(1);
-    }
+/// The writer of one edition, after the level and the edition.
+#[inline(always)]
+fn write_in<E: Edition>(level: usize, longitude: i64, latitude: i64, layer: i64, line: &mut [u8], at: usize) -> Result<usize, Refusal> {
     let (x, y) = (index(longitude), index(latitude));
     if x >= 1_327_104_000 {
         return refuse(2);
@@ -110,21 +191,31 @@ pub fn write(level: i64, longitude: i64, latitude: i64, layer: i64, line: &mut [
     if y >= 663_552_000 {
         return refuse(3);
     }
-    if !(-(DEPTH as i64)..DEPTH as i64).contains(&layer) {
+    if !(E::LEAST..=E::GREATEST).contains(&layer) {
         return refuse(4);
     }
-    let n = LENGTHS[level as usize];
+    let n = LENGTHS[level];
     if at > line.len() || line.len() - at < n {
         return refuse(5);
     }
     if y >= 648_806_400 {
         return refuse(REFUSED_POLAR);
     }
-    let below = layer < 0;
-    let h = if below { layer + DEPTH as i64 } else { layer } as u32;
-    let place = Place { west: longitude < 0, south: latitude < 0, below, x: x as u32, y: y as u32, h };
-    put(level as usize, &place, &mut line[at..]);
+    let place = Place { west: longitude < 0, south: latitude < 0, below: layer < 0, x: x as u32, y: y as u32, h: E::height(layer) };
+    put::<E>(level, &place, &mut line[at..]);
     Ok(n)
+}
+
+#[inline(never)]
+pub fn write(edition: i64, level: i64, longitude: i64, latitude: i64, layer: i64, line: &mut [u8], at: usize) -> Result<usize, Refusal> {
+    if !(1..=10).contains(&level) {
+        return refuse(1);
+    }
+    match edition {
+        1 => write_in::<Edition1>(level as usize, longitude, latitude, layer, line, at),
+        2 => write_in::<Edition2>(level as usize, longitude, latitude, layer, line, at),
+        _ => refuse(13),
+    }
 }
 
 #[inline(always)]
@@ -166,22 +257,22 @@ macro_rules! two_digits {
     }};
 }
 
-/// A level of three characters: its columns, rows and layers, each of the same size.
+/// A level of three characters: its columns and rows of one size, and its digit of the height.
 macro_rules! three {
-    ($code:ident, $s:ident, $place:expr, $cols:expr, $rows:expr, $layers:expr, $size:expr) => {{
+    ($code:ident, $s:ident, $level:expr, $place:expr, $cols:expr, $rows:expr, $size:expr) => {{
         $s.x += digit!($code, $place, $cols) * $size;
         $s.y += digit!($code, $place + 1, $rows) * $size;
-        $s.h += digit!($code, $place + 2, $layers) * $size;
+        $s.h += E::part(digit!($code, $place + 2, E::DIGITS[$level]), $level);
     }};
 }
 
-/// A level of two characters: two columns and two layers of one size, and some rows.
+/// A level of two characters: two columns, some rows, and its digit of the height.
 macro_rules! two {
-    ($code:ident, $s:ident, $place:expr, $rows:expr, $size:expr, $height:expr) => {{
+    ($code:ident, $s:ident, $level:expr, $place:expr, $rows:expr, $size:expr, $height:expr) => {{
         let v = digit!($code, $place, 2 * $rows);
         $s.x += v % 2 * $size;
         $s.y += v / 2 * $height;
-        $s.h += digit!($code, $place + 1, 2) * $size;
+        $s.h += E::part(digit!($code, $place + 1, E::DIGITS[$level]), $level);
     }};
 }
 
@@ -194,49 +285,50 @@ struct Sum {
 }
 
 #[inline(always)]
-fn rest(code: &[u8], level: usize, mut s: Sum) -> Result<Sum, Refusal> {
+fn rest<E: Edition>(code: &[u8], level: usize, mut s: Sum) -> Result<Sum, Refusal> {
     let code = &code[..LENGTHS[level]];
     if level < 2 {
         return Ok(s);
     }
-    three!(code, s, 7, 12, 8, 8, 3_686_400);
+    three!(code, s, 2, 7, 12, 8, 3_686_400);
     if level < 3 {
         return Ok(s);
     }
-    two!(code, s, 10, 3, 1_843_200, 1_228_800);
+    two!(code, s, 3, 10, 3, 1_843_200, 1_228_800);
     if level < 4 {
         return Ok(s);
     }
-    three!(code, s, 12, 15, 10, 15, 122_880);
+    three!(code, s, 4, 12, 15, 10, 122_880);
     if level < 5 {
         return Ok(s);
     }
-    three!(code, s, 15, 15, 15, 15, 8_192);
+    three!(code, s, 5, 15, 15, 15, 8_192);
     if level < 6 {
         return Ok(s);
     }
-    two!(code, s, 18, 2, 4_096, 4_096);
+    two!(code, s, 6, 18, 2, 4_096, 4_096);
     if level < 7 {
         return Ok(s);
     }
-    three!(code, s, 20, 8, 8, 8, 512);
+    three!(code, s, 7, 20, 8, 8, 512);
     if level < 8 {
         return Ok(s);
     }
-    three!(code, s, 23, 8, 8, 8, 64);
+    three!(code, s, 8, 23, 8, 8, 64);
     if level < 9 {
         return Ok(s);
     }
-    three!(code, s, 26, 8, 8, 8, 8);
+    three!(code, s, 9, 26, 8, 8, 8);
     if level < 10 {
         return Ok(s);
     }
-    three!(code, s, 29, 8, 8, 8, 1);
+    three!(code, s, 10, 29, 8, 8, 1);
     Ok(s)
 }
 
-#[inline(never)]
-pub fn read(code: &[u8]) -> Result<Cell, Refusal> {
+/// The reader of one edition.
+#[inline(always)]
+fn read_in<E: Edition>(code: &[u8]) -> Result<Cell, Refusal> {
     let level = level_of(code.len());
     if level == 0 {
         return Err(Refusal::new(6, 0));
@@ -257,8 +349,16 @@ pub fn read(code: &[u8]) -> Result<Cell, Refusal> {
     }
     let west = z < 31;
     let x = if west { 30 - z } else { z - 31 } * 44_236_800;
-    let h = two_digits!(code, 5, 63) * 29_491_200;
-    let s = rest(code, level, Sum { x, y: (row - 10) * 29_491_200, h })?;
-    let floor = if below { s.h as i32 - DEPTH as i32 } else { s.h as i32 };
-    Ok(Cell { plane: cell(level, west, south, s.x, s.y), floor, thickness: THICKNESSES[level] })
+    let h = E::part(two_digits!(code, 5, 63), 1);
+    let s = rest::<E>(code, level, Sum { x, y: (row - 10) * 29_491_200, h })?;
+    Ok(Cell { plane: cell(level, west, south, s.x, s.y), floor: E::floor(below, s.h), thickness: E::THICKNESSES[level] })
+}
+
+#[inline(never)]
+pub fn read(edition: i64, code: &[u8]) -> Result<Cell, Refusal> {
+    match edition {
+        1 => read_in::<Edition1>(code),
+        2 => read_in::<Edition2>(code),
+        _ => Err(Refusal::new(13, 0)),
+    }
 }

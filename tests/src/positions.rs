@@ -1,10 +1,12 @@
-//! The cases of document 01, "Positions to check", asked of the oracle.
+//! The cases of document 01, "Positions to check", and those of Wish 1 of
+//! document 02, asked of the oracle.
 
 use crate::arcseconds::{arcseconds, over_2048, plane_box};
 use crate::cases::{self, Random};
 use crate::plane::{self, listing, PlaneCell, LENGTHS, TURN};
 use crate::refusals::{refusal, Refusal};
-use crate::{lines, reference, space};
+use crate::space::{self, Edition};
+use crate::{layers, lines, reference};
 
 fn plane_code(longitude: i64, latitude: i64, level: i64) -> String {
     let mut line = [0; 20];
@@ -16,9 +18,9 @@ fn plane_code(longitude: i64, latitude: i64, level: i64) -> String {
     String::from_utf8(listed).unwrap()
 }
 
-fn space_code(longitude: i64, latitude: i64, layer: i64, level: i64) -> String {
+fn space_code(edition: Edition, longitude: i64, latitude: i64, layer: i64, level: i64) -> String {
     let mut line = [0; 32];
-    let length = space::write(level, longitude, latitude, layer, &mut line, 0).unwrap();
+    let length = space::write(edition as i64, level, longitude, latitude, layer, &mut line, 0).unwrap();
     String::from_utf8(line[..length].to_vec()).unwrap()
 }
 
@@ -71,11 +73,80 @@ fn p11_and_p12() {
     assert_eq!(plane::read(code.as_bytes()), Ok(cell));
     assert_eq!(plane_code(255_316_321, 277_488_284, 10), code);
     let tall = "N036J0093000780B3010010520430140";
-    assert_eq!(space_code(255_316_321, 277_488_284, 0, 10), tall);
-    let read = space::read(tall.as_bytes()).unwrap();
-    assert_eq!((read.plane, read.floor, read.thickness), (cell, 0, 1));
-    assert_eq!(space_code(0, 0, -1, 1), "N131A63");
-    assert_eq!(space_code(0, 0, 1_843_199, 4), "N031A000000000E");
+    for edition in Edition::BOTH {
+        assert_eq!(space_code(edition, 255_316_321, 277_488_284, 0, 10), tall);
+        let read = space::read(edition as i64, tall.as_bytes()).unwrap();
+        assert_eq!((read.plane, read.floor, read.thickness), (cell, 0, 1));
+        assert_eq!(space_code(edition, 0, 0, -1, 1), "N131A63");
+    }
+    assert_eq!(space_code(Edition::Ours, 0, 0, 1_843_199, 4), "N031A000000000E");
+}
+
+/// The height characters at (0, 0), level 10, from codes that have only zeros
+/// for the rest of the plane.
+fn heights(edition: Edition, layer: i64) -> String {
+    let code = space_code(edition, 0, 0, layer, 10);
+    let places = [1, 5, 6, 9, 11, 14, 17, 19, 22, 25, 28, 31];
+    places.map(|place| char::from(code.as_bytes()[place])).iter().collect()
+}
+
+#[test]
+fn layers_by_bits() {
+    let theirs = |layer| heights(Edition::Theirs, layer);
+    assert_eq!(theirs(0), "000000000000");
+    assert_eq!(theirs(2_147_483_647), "06371FF17777");
+    assert_eq!(theirs(-1), "16371FF17777");
+    assert_eq!(theirs(-2_147_483_648), "100000000000");
+    assert_eq!(theirs(1_887_436_800), "056200000000");
+    assert_eq!(theirs(-1_887_436_801), "10751FF17777");
+    // The lowest bit of each field, and F at each of its two places.
+    assert_eq!(theirs(0x0262_3249), "001111111111");
+    assert_eq!(theirs(15 << 17), "00000F000000");
+    assert_eq!(theirs(15 << 13), "000000F00000");
+    assert_eq!(heights(Edition::Ours, -1), "16371EE17777");
+    assert_eq!(heights(Edition::Ours, 15 << 17), "000011000000");
+}
+
+/// A code's floor and thickness.
+fn layers_of(edition: i64, code: &str) -> (i32, u32) {
+    let cell = space::read(edition, code.as_bytes()).unwrap();
+    (cell.floor, cell.thickness)
+}
+
+#[test]
+fn layers_of_editions() {
+    assert_eq!(layers_of(1, "N131A63"), (-29_491_200, 29_491_200));
+    assert_eq!(layers_of(2, "N131A63"), (-33_554_432, 33_554_432));
+    assert_eq!(layers_of(2, "N131A00"), (-2_147_483_648, 33_554_432));
+    assert_eq!(layers_of(2, "N031A000000000F"), (15 << 17, 1 << 17));
+    assert_eq!(space::read(1, b"N031A000000000F"), Err(bad(14)));
+    assert_eq!(layers_of(2, "S131A630070100F00F"), (-8_192, 8_192));
+    assert_eq!(space::read(1, b"S131A630070100E00F"), Err(bad(17)));
+    assert_eq!(space::read(2, b"N031A000000000G"), Err(bad(14)));
+    // F is a digit at levels 4 and 5 alone, and only of the height.
+    assert_eq!(space::read(2, b"N031A0000F"), Err(bad(9)));
+    assert_eq!(space::read(2, b"N031A0000000F00"), Err(bad(12)));
+    assert_eq!(space::read(2, b"N131A64"), Err(bad(6)));
+}
+
+#[test]
+fn editions() {
+    let mut line = [7; 32];
+    let mut write = |edition, level, longitude, layer| space::write(edition, level, longitude, 0, layer, &mut line, 0);
+    for edition in cases::ODD_EDITIONS {
+        assert_eq!(write(edition, 1, 0, 0), Err(refusal(13)));
+        assert_eq!(write(edition, 1, 1_327_104_000, 1 << 40), Err(refusal(13)));
+        assert_eq!(write(edition, 0, 0, 0), Err(refusal(1)));
+        assert_eq!(space::read(edition, b"N131A63"), Err(refusal(13)));
+        assert_eq!(space::read(edition, b""), Err(refusal(13)));
+        assert_eq!(space::read(edition, b"n131A63"), Err(refusal(13)));
+    }
+    for (edition, least, greatest) in [(1, -1_887_436_800, 1_887_436_799), (2, -2_147_483_648, 2_147_483_647)] {
+        assert_eq!(write(edition, 10, 0, least - 1), Err(refusal(4)));
+        assert_eq!(write(edition, 10, 0, least), Ok(32));
+        assert_eq!(write(edition, 10, 0, greatest), Ok(32));
+        assert_eq!(write(edition, 10, 0, greatest + 1), Err(refusal(4)));
+    }
 }
 
 #[test]
@@ -101,9 +172,9 @@ fn run_cases() {
     // "Row 0 with a column other than 0 gets 7 at the row character."
     assert_eq!(plane::read(b"N00000010"), Err(bad(8)));
     assert_eq!(plane::read(b"S00000000001"), Err(bad(11)));
-    assert_eq!(space::read(b"N131A64"), Err(bad(6)));
-    assert_eq!(space::read(b"N131A70"), Err(bad(5)));
-    assert_eq!(space::read(b"N231A00"), Err(bad(1)));
+    assert_eq!(space::read(1, b"N131A64"), Err(bad(6)));
+    assert_eq!(space::read(1, b"N131A70"), Err(bad(5)));
+    assert_eq!(space::read(1, b"N231A00"), Err(bad(1)));
     let mut line = [7; 30];
     assert_eq!(reference::read(b"N31A-10", &mut line, 0), Err(refusal(8)));
     assert_eq!(reference::read(b"N31A0000000-H0", &mut line, 0), Err(bad(12)));
@@ -208,16 +279,18 @@ fn quick_is_listing() {
 #[test]
 fn space_round_trip() {
     let mut random = Random::new(13);
-    for _ in 0..50_000 {
+    for edition in (0..50_000).map(|round| Edition::BOTH[round % 2]) {
         let (longitude, latitude) = cases::near_edge(&mut random);
-        let layer = cases::layer(&mut random);
+        let layer = cases::layer(&mut random, edition);
         let level = random.between(1, 10);
-        let code = space_code(longitude, latitude, layer, level);
-        let cell = space::read(code.as_bytes()).unwrap();
+        let code = space_code(edition, longitude, latitude, layer, level);
+        let cell = space::read(edition as i64, code.as_bytes()).unwrap();
         let floor = i64::from(cell.floor);
         assert!(floor <= layer && layer < floor + i64::from(cell.thickness));
         assert_eq!(floor.rem_euclid(i64::from(cell.thickness)), 0);
         assert_eq!(cell.plane, listing::code(level as usize, longitude, latitude).1);
+        let plain = layers::height_cell(edition, level as usize, layer);
+        assert_eq!((floor, i64::from(cell.thickness)), (plain.floor, plain.thickness));
     }
 }
 

@@ -41,8 +41,17 @@ laid_out!(HgBox, 48, refusal at 0: HgRefusal, west at 16: f64, south at 24: f64,
 extern "C" {
     pub fn hg_plane_write(level: i64, longitude: i64, latitude: i64, line: *mut u8, length: usize, at: usize) -> HgWritten;
     pub fn hg_plane_read(code: *const u8, length: usize) -> HgPlaneCell;
-    pub fn hg_space_write(level: i64, longitude: i64, latitude: i64, layer: i64, line: *mut u8, length: usize, at: usize) -> HgWritten;
-    pub fn hg_space_read(code: *const u8, length: usize) -> HgSpaceCell;
+    pub fn hg_space_write(
+        edition: i64,
+        level: i64,
+        longitude: i64,
+        latitude: i64,
+        layer: i64,
+        line: *mut u8,
+        length: usize,
+        at: usize,
+    ) -> HgWritten;
+    pub fn hg_space_read(edition: i64, code: *const u8, length: usize) -> HgSpaceCell;
     pub fn hg_reference_write(
         base: *const u8,
         base_length: usize,
@@ -73,13 +82,13 @@ pub mod lent {
     }
 
     #[inline(always)]
-    pub fn space_write(level: i64, longitude: i64, latitude: i64, layer: i64, line: &mut [u8], at: usize) -> HgWritten {
-        unsafe { crate::hg_space_write(level, longitude, latitude, layer, line.as_mut_ptr(), line.len(), at) }
+    pub fn space_write(edition: i64, level: i64, longitude: i64, latitude: i64, layer: i64, line: &mut [u8], at: usize) -> HgWritten {
+        unsafe { crate::hg_space_write(edition, level, longitude, latitude, layer, line.as_mut_ptr(), line.len(), at) }
     }
 
     #[inline(always)]
-    pub fn space_read(code: &[u8]) -> HgSpaceCell {
-        unsafe { crate::hg_space_read(code.as_ptr(), code.len()) }
+    pub fn space_read(edition: i64, code: &[u8]) -> HgSpaceCell {
+        unsafe { crate::hg_space_read(edition, code.as_ptr(), code.len()) }
     }
 
     #[inline(always)]

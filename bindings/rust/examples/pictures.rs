@@ -172,21 +172,21 @@ fn cap(folder: &Path, name: &str, title: &str, parent: &str, characters: usize, 
     svg.save(folder, name);
 }
 
-/// The layers of the first two levels about the ground.
+/// The layers of the first two levels about the ground, in edition 1.
 fn layers(folder: &Path) {
     let mut svg = Svg::new(760.0, 640.0, "Height characters about the ground: sign and two digits of level 1, one digit of level 2");
     let scale = 250.0 / (2.0 * 29_491_200.0);
     let ground = 330.0;
     for (i, (sign, digits)) in [(0, "01"), (0, "00"), (1, "63"), (1, "62")].iter().enumerate() {
         let code = format!("N{sign}31A{digits}");
-        let c = space_read(code.as_bytes()).unwrap_or_else(|refusal| panic!("{code}: {refusal}"));
+        let c = space_read(1, code.as_bytes()).unwrap_or_else(|refusal| panic!("{code}: {refusal}"));
         let (y, h) = (ground - (f64::from(c.floor) + f64::from(c.thickness)) * scale, f64::from(c.thickness) * scale);
         svg.shape(&format!("M150 {y:.1}h150v{h:.1}h-150z"), FILLS[i]);
         svg.text(225.0, y + h / 2.0 + 5.0, 14.0, &format!("{sign} {digits}"));
         svg.text(80.0, y + h + 4.0, 12.0, &format!("{}", c.floor));
         for k in 0..8 {
             let code = format!("N{sign}31A{digits}00{k}");
-            let c = space_read(code.as_bytes()).unwrap_or_else(|refusal| panic!("{code}: {refusal}"));
+            let c = space_read(1, code.as_bytes()).unwrap_or_else(|refusal| panic!("{code}: {refusal}"));
             let (y, h) = (ground - (f64::from(c.floor) + f64::from(c.thickness)) * scale, f64::from(c.thickness) * scale);
             svg.shape(&format!("M330 {y:.1}h110v{h:.1}h-110z"), FILLS[(i + k) % FILLS.len()]);
             svg.text(385.0, y + h / 2.0 + 4.0, 10.0, &k.to_string());

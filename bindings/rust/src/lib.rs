@@ -4,6 +4,10 @@
 //! refusal changes no byte of a line that was lent. The work is done by a library whose every function is proved; this crate only
 //! wraps its C interface.
 //!
+//! Space codes have two editions, and the caller names one by its number: 1 is the grid's own, with layers from -1,887,436,800 to
+//! 1,887,436,799; 2 cuts the layer by bits (annex C.14 of the standard), with layers from -2,147,483,648 to 2,147,483,647. Nothing in a
+//! code says its edition.
+//!
 //! ```
 //! let mut line = *b"................";
 //! assert_eq!(hailgully::plane_write(8, 857_549_557, 294_861_578, &mut line, 0), Ok(16));
@@ -25,7 +29,7 @@ pub enum Reason {
     Longitude = 2,
     /// latitude outside its range (either infinity too)
     Latitude = 3,
-    /// layer outside its range
+    /// layer outside its range, which is the edition's
     Layer = 4,
     /// from the place given, the line lacks bytes for the whole code
     Room = 5,
@@ -43,10 +47,12 @@ pub enum Reason {
     NotANumber = 11,
     /// a reference read leads to 88 degrees or nearer a pole
     PolarTarget = 12,
+    /// edition neither 1 nor 2
+    Edition = 13,
 }
 
 /// Each reason with its words: place n - 1 has number n.
-const REASONS: [(Reason, &str); 12] = [
+const REASONS: [(Reason, &str); 13] = [
     (Reason::Level, "level outside 1 to 10"),
     (Reason::Longitude, "longitude outside its range"),
     (Reason::Latitude, "latitude outside its range"),
@@ -59,6 +65,7 @@ const REASONS: [(Reason, &str); 12] = [
     (Reason::Offset, "either offset is beyond 7"),
     (Reason::NotANumber, "either arc-second reading is not a number"),
     (Reason::PolarTarget, "a reference read leads to 88 degrees or nearer a pole"),
+    (Reason::Edition, "edition neither 1 nor 2"),
 ];
 
 /// A refusal: no result, and no byte that was lent was changed.
@@ -191,25 +198,46 @@ pub fn plane_read(code: &[u8]) -> Result<PlaneCell, Refusal> {
     answer(c.refusal, PlaneCell { level: c.level, west: c.west, south: c.south, width: c.width, height: c.height })
 }
 
-/// Writes the space code of a level for a position and a layer; the number of bytes. Refusals, in order: 1, 2, 3, 4, 5.
+/// Writes the space code of an edition and a level for a position and a layer; the number of bytes. Refusals, in order: 1, 13, 2, 3, 4, 5.
 ///
 /// ```
-/// let mut line = [0; 7];
-/// assert_eq!(hailgully::space_write(1, 0, 0, -1, &mut line, 0), Ok(7));
-/// assert_eq!(&line, b"N131A63");
+/// use hailgully::{space_write, Reason};
+/// let mut line = [0; 15];
+/// assert_eq!(space_write(1, 4, 0, 0, 1_966_080, &mut line, 0), Ok(15));
+/// assert_eq!(&line, b"N031A0000001001");
+/// assert_eq!(space_write(2, 4, 0, 0, 1_966_080, &mut line, 0), Ok(15));
+/// assert_eq!(&line, b"N031A000000000F");
+/// assert_eq!(space_write(1, 4, 0, 0, 2_147_483_647, &mut line, 0).unwrap_err().reason, Reason::Layer);
+/// assert_eq!(space_write(2, 1, 0, 0, 2_147_483_647, &mut line, 0), Ok(7));
+/// assert_eq!(space_write(3, 4, 0, 0, 0, &mut line, 0).unwrap_err().to_string(), "refused 13: edition neither 1 nor 2");
 /// ```
-pub fn space_write(level: i64, longitude: i64, latitude: i64, layer: i64, line: &mut [u8], at: usize) -> Result<usize, Refusal> {
-    written(raw::lent::space_write(level, longitude, latitude, layer, line, at))
+pub fn space_write(
+    edition: i64,
+    level: i64,
+    longitude: i64,
+    latitude: i64,
+    layer: i64,
+    line: &mut [u8],
+    at: usize,
+) -> Result<usize, Refusal> {
+    written(raw::lent::space_write(edition, level, longitude, latitude, layer, line, at))
 }
 
-/// Reads a space code; the floor is the lower face. Refusals, in order: 6, 7.
+/// Reads a space code of an edition; the floor is the lower face. Refusals, in order: 13, 6, 7.
 ///
 /// ```
-/// let cell = hailgully::space_read(b"N131A63").unwrap();
+/// use hailgully::{space_read, Reason};
+/// let cell = space_read(1, b"N131A63").unwrap();
 /// assert_eq!((cell.floor, cell.thickness), (-29_491_200, 29_491_200));
+/// let cell = space_read(2, b"N131A63").unwrap();
+/// assert_eq!((cell.floor, cell.thickness), (-33_554_432, 33_554_432));
+/// // F is a digit in edition 2 alone.
+/// assert_eq!(space_read(2, b"N031A000000000F").unwrap().floor, 1_966_080);
+/// assert_eq!(space_read(1, b"N031A000000000F").unwrap_err().place, Some(14));
+/// assert_eq!(space_read(0, b"N131A63").unwrap_err().reason, Reason::Edition);
 /// ```
-pub fn space_read(code: &[u8]) -> Result<SpaceCell, Refusal> {
-    let c = raw::lent::space_read(code);
+pub fn space_read(edition: i64, code: &[u8]) -> Result<SpaceCell, Refusal> {
+    let c = raw::lent::space_read(edition, code);
     let plane = PlaneCell { level: c.level, west: c.west, south: c.south, width: c.width, height: c.height };
     answer(c.refusal, SpaceCell { plane, floor: c.floor, thickness: c.thickness })
 }

@@ -95,7 +95,7 @@ chars-digits (x ∷ w) h = rw (char-digit x (h .0), chars-digits w (h .1)) refl
 
 -- ---- what tells a byte's digit below n
 
-char-decimal : (v : ℕ) → v < 10 → 48 + v ≡ charOf v
+pub char-decimal : (v : ℕ) → v < 10 → 48 + v ≡ charOf v
 unfolding charOf
 char-decimal v h = rw (lt-ltb v 10 h) refl
 

@@ -15,12 +15,12 @@ use Rattle.grid.specs.Units.{TURN, HALF, QUARTER}
 use Rattle.grid.specs.Answers.{accepted}
 use Rattle.grid.specs.Cells.{RunIn, InRanges, SpaceInRanges}
 use Rattle.grid.specs.Plane.{ordinary, belt, disc, Box, Node, globe, pole, cell, cap, least, leastFromPole, cellFrom, cellAt, planeCodes, cellOf}
-use Rattle.grid.specs.Layers.{radices, product, Stack, all, part, floorOf, thicknessOf}
+use Rattle.grid.specs.Layers.{editionIn, product, Stack, all, part, floorOf, thicknessOf}
 use Rattle.grid.specs.Space.{spaceCodes, spaceCellOf}
 use Rattle.grid.proofs.PlaneLaws.{Good, index-longitudeAt, cell-positive, cap-positive}
 use Rattle.grid.proofs.LayerLaws.{GoodStack, part-positive}
 use Rattle.grid.proofs.Families.{found, found-good}
-use Rattle.grid.proofs.Theorems.{plane-sound, space-sound, radices-sound}
+use Rattle.grid.proofs.Theorems.{plane-sound, space-sound, edition-fair, edition-some}
 
 -- ---- n numbers from one on
 
@@ -87,11 +87,12 @@ stack-ranges top (part false low n) p g =
     let h : low + n ≤ top = g .fit in
     from-below top (top - 1 - low) n q (omega arith) (omega arith)
 
--- and floor and top of every accepted space code's cell
-pub space-in-ranges : (w : List ℕ) (c : SpaceCell) → spaceCellOf w ≡ accepted c → SpaceInRanges c
-unfolding spaceCellOf spaceCodes space-sound radices-sound
-space-in-ranges w c e =
-    let f = found (spaceCodes radices) radices-sound w c e in
-    let g = found-good (spaceCodes radices) radices-sound w c f in
-    subst (λ (x : SpaceCell). SpaceInRanges x) (f .same)
-    (record { plan-in = cell-ranges (f .l) (f .node .0) (g .0); layers-in = stack-ranges (product radices) (f .node .1) (omega arith) (g .1) })
+-- and floor and top of every cell that an edition's space code names
+pub space-in-ranges : (edition : ℤ) (rs w : List ℕ) (c : SpaceCell) → editionIn edition ≡ accepted rs → spaceCellOf rs w ≡ accepted c → SpaceInRanges (product rs) c
+unfolding spaceCellOf spaceCodes space-sound
+space-in-ranges edition rs w c h e =
+    let S = space-sound rs (edition-fair edition rs h) in
+    let f = found (spaceCodes rs) S w c e in
+    let g = found-good (spaceCodes rs) S w c f in
+    subst (λ (x : SpaceCell). SpaceInRanges (product rs) x) (f .same)
+    (record { plan-in = cell-ranges (f .l) (f .node .0) (g .0); layers-in = stack-ranges (product rs) (f .node .1) (edition-some edition rs h) (g .1) })

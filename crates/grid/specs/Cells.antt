@@ -6,7 +6,7 @@ use lib.IntN.{ℤ, pos, negsuc, _+ℤ_}
 use lib.Signed.{_≤ℤ_}
 use Rattle.grid.specs.declared.Cell.{Cell}
 use Rattle.grid.specs.declared.SpaceCell.{SpaceCell}
-use Rattle.grid.specs.Units.{TURN, HALF, QUARTER, LAYERS, index, Square, Cube}
+use Rattle.grid.specs.Units.{TURN, HALF, QUARTER, index, Square, Cube}
 
 -- a longitude's remainder by a full turn: longitudes a full turn apart are the same
 abbrev pub around : ℤ → ℕ
@@ -48,7 +48,7 @@ pub record InRanges (c : Cell) : Type 0 where
   pub at-most-a-turn : c .width ≤ TURN
   pub rows-in : RunIn QUARTER (c .south) (c .height)
 
--- the same of its plane cell, and its layers, from floor to top, lie in the layers' range
-pub record SpaceInRanges (c : SpaceCell) : Type 0 where
+-- the same of its plane cell, and its layers, from floor to top, lie in the range of so many layers above ground and as many below
+pub record SpaceInRanges (most : ℕ) (c : SpaceCell) : Type 0 where
   pub plan-in : InRanges (c .cell)
-  pub layers-in : RunIn LAYERS (c .floor) (c .thickness)
+  pub layers-in : RunIn most (c .floor) (c .thickness)

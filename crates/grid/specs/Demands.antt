@@ -6,12 +6,12 @@ use mathlib.Core.Logic.{_↔_, _⊎_}
 use Prim.Native.Nat.{ℕ, _≤_}
 use Rattle.grid.specs.declared.Cell.{Cell}
 use Rattle.grid.specs.declared.SpaceCell.{SpaceCell}
-use Rattle.grid.specs.Units.{Square, OnGlobe, Cube, OnGrid}
+use Rattle.grid.specs.Units.{Square, OnGlobe, Cube}
 use Rattle.grid.specs.Answers.{Answer, accepted}
 use Rattle.grid.specs.Places.{Accepted}
 use Rattle.grid.specs.Cells.{Covers, CoversCube}
 use Rattle.grid.specs.Plane.{codeOf, cellOf}
-use Rattle.grid.specs.Space.{spaceCodeOf, spaceCellOf}
+use Rattle.grid.specs.Space.{OnGrid, spaceCodeOf, spaceCellOf}
 
 -- a family of codes as its callers see it: points (unit squares or cubes), cells, and the two ways between
 pub record Family : Type 1 where
@@ -82,17 +82,17 @@ planeFamily =
       cellOf = cellOf;
     }
 
--- space codes over unit cubes
-abbrev pub spaceFamily : Family
-spaceFamily =
+-- an edition's space codes over unit cubes
+abbrev pub spaceFamily : List ℕ → Family
+spaceFamily rs =
     record {
       levels = 10;
       Point = Cube;
       Cell = SpaceCell;
-      On = OnGrid;
-      Coded = λ l s. OnGrid s;
+      On = OnGrid rs;
+      Coded = λ l s. OnGrid rs s;
       Covers = CoversCube;
       level = λ c. c .cell .level;
-      codeOf = spaceCodeOf;
-      cellOf = spaceCellOf;
+      codeOf = spaceCodeOf rs;
+      cellOf = spaceCellOf rs;
     }

@@ -1,16 +1,26 @@
 -- Layers, over any list of radices. Sign 0 for layer 0 and up, 1 below; the rest is the layer, or the layer plus `top` below ground.
 -- Assumes nothing.
-use mathlib.Core.Bool.{Bool, true, false, _&&_}
+use mathlib.Core.Bool.{Bool, true, false, cond, _&&_}
 use mathlib.Core.List.{List, [], _∷_}
 use Prim.Native.Nat.{ℕ, _+_, _-_, _*_, _/_, _%_}
 use lib.Dec.{ltb, leb, eqb}
 use lib.IntN.{ℤ, pos, negsuc}
 use Rattle.grid.specs.Units.{side}
+use Rattle.grid.specs.Answers.{Answer, accepted, refused, refusal, unless}
 use Rattle.grid.specs.Tree.{Tree, Read, ok, bad, guard}
 
--- document 01's radices, from the coarsest
-abbrev pub radices : List ℕ
-radices = 64 ∷ 8 ∷ 2 ∷ 15 ∷ 15 ∷ 2 ∷ 8 ∷ 8 ∷ 8 ∷ 8 ∷ []
+-- edition 1, ours: document 01's radices, from the coarsest
+abbrev pub ours : List ℕ
+ours = 64 ∷ 8 ∷ 2 ∷ 15 ∷ 15 ∷ 2 ∷ 8 ∷ 8 ∷ 8 ∷ 8 ∷ []
+
+-- edition 2, theirs: the layer cut by bits, 6, 3, 1, 4, 4, 1, 3, 3, 3 and 3 of them (document 02, Wish 1)
+abbrev pub theirs : List ℕ
+theirs = 64 ∷ 8 ∷ 2 ∷ 16 ∷ 16 ∷ 2 ∷ 8 ∷ 8 ∷ 8 ∷ 8 ∷ []
+
+-- an edition by its number: its radices, or 13 where it is neither 1 nor 2
+unfoldable pub editionIn : ℤ → Answer (List ℕ)
+editionIn (pos n) = cond (eqb n 1) (accepted ours) (unless (eqb n 2) (refusal 13 0) (accepted theirs))
+editionIn (negsuc n) = refused (refusal 13 0)
 
 -- how many layers they number: so many there are above ground, and as many below
 abbrev pub product : List ℕ → ℕ

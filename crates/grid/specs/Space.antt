@@ -1,17 +1,18 @@
--- Space codes: the plane's tree and the layers' side by side. An edition is its list of radices; document 01's is the one in use.
+-- Space codes: the plane's tree and the layers' side by side. An edition is its list of radices.
 -- Assumes nothing.
 use mathlib.Core.Bool.{true, false}
 use mathlib.Core.List.{List, [], _∷_}
-use Prim.Native.Nat.{ℕ}
+use Prim.Native.Nat.{ℕ, _<_}
+use lib.IntN.{ℤ}
 use Rattle.grid.specs.declared.Split.{Split}
 use Rattle.grid.specs.declared.SpaceCell.{SpaceCell}
-use Rattle.grid.specs.Units.{Cube}
+use Rattle.grid.specs.Units.{index, OnGlobe, Cube}
 use Rattle.grid.specs.Tree.{Tree}
-use Rattle.grid.specs.Answers.{Answer}
+use Rattle.grid.specs.Answers.{Answer, andThen}
 use Rattle.grid.specs.Codes.{Codes, codeIn, readIn}
 use Rattle.grid.specs.Splits.{splits}
 use Rattle.grid.specs.Plane.{Node, globe, plane, cellAt}
-use Rattle.grid.specs.Layers.{radices, product, Stack, all, layers, floorOf, thicknessOf}
+use Rattle.grid.specs.Layers.{editionIn, product, Stack, all, layers, floorOf, thicknessOf}
 use Rattle.grid.specs.Both.{Pair, both}
 
 -- plane cells and layers, side by side
@@ -52,12 +53,21 @@ spaceCodes rs =
       cellAt = spaceCellAt (product rs);
     }
 
--- level, position and layer to space code
-unfoldable pub spaceCodeOf : ℕ → Cube → List ℕ
-unfolding spaceCodes
-spaceCodeOf l s = codeIn (spaceCodes radices) l s
+-- the square lies on the globe, and the layer in the edition's range
+pub record OnGrid (rs : List ℕ) (s : Cube) : Type 0 where
+  pub on-globe : OnGlobe (s .0)
+  pub layer-in : index (s .1) < product rs
 
--- bytes to the space cell, or refusal 6, or 7 with its place in the whole space code
-unfoldable pub spaceCellOf : List ℕ → Answer SpaceCell
+-- within an edition: level, position and layer to space code
+unfoldable pub spaceCodeOf : List ℕ → ℕ → Cube → List ℕ
 unfolding spaceCodes
-spaceCellOf w = readIn (spaceCodes radices) w
+spaceCodeOf rs l s = codeIn (spaceCodes rs) l s
+
+-- within an edition: bytes to the space cell, or refusal 6, or 7 with its place in the whole space code
+unfoldable pub spaceCellOf : List ℕ → List ℕ → Answer SpaceCell
+unfolding spaceCodes
+spaceCellOf rs w = readIn (spaceCodes rs) w
+
+-- 13, else what the edition makes of the bytes
+abbrev pub spaceCellIn : ℤ → List ℕ → Answer SpaceCell
+spaceCellIn edition w = andThen (editionIn edition) (λ rs. spaceCellOf rs w)

@@ -32,10 +32,6 @@ POLAR = 88 * DEGREE
 abbrev pub DISC : ℕ
 DISC = 89 * DEGREE
 
--- the layers above ground, and as many below
-abbrev pub LAYERS : ℕ
-LAYERS = 1887436800
-
 -- which side of 0 a number lies on: true for 0 and above
 abbrev pub side : ℤ → Bool
 side (pos n) = true
@@ -73,8 +69,3 @@ pub record OnGlobe (s : Square) : Type 0 where
 -- a unit cube: a square and a layer
 abbrev pub Cube : Type 0
 Cube = Square × ℤ
-
--- the square lies on the globe, and the layer in its range
-pub record OnGrid (s : Cube) : Type 0 where
-  pub on-globe : OnGlobe (s .0)
-  pub layer-in : index (s .1) < LAYERS

@@ -11,7 +11,7 @@ use Rattle.grid.specs.declared.Written.{Written}
 use Rattle.grid.specs.Answers.{Answer, accepted, refused, planeRead}
 use Rattle.grid.specs.Laying.{laid, written}
 use Rattle.grid.specs.Plane.{cellOf}
-use Rattle.grid.specs.Space.{spaceCellOf}
+use Rattle.grid.specs.Space.{spaceCellIn}
 use Rattle.grid.proofs.Cut.{clash}
 use Rattle.grid.proofs.Laying.{laid-one, plane-read-one}
 use Rattle.plane.specs.Text.{planeText}
@@ -45,9 +45,9 @@ plane-write level longitude latitude line at = written-one (planeText level long
 pub plane-read : (code : List ℕ) → Determined (λ (r : PlaneRead). planeRead r ≡ cellOf code)
 plane-read code a b e f = plane-read-one a b (e ∙ sym f)
 
-pub space-write : (level longitude latitude layer : ℤ) (line : List ℕ) (at : ℕ)
-    → Determined (λ (r : Written × List ℕ). (written (r .0), r .1) ≡ laid (spaceText level longitude latitude layer) line at)
-space-write level longitude latitude layer line at = written-one (spaceText level longitude latitude layer) line at
+pub space-write : (edition level longitude latitude layer : ℤ) (line : List ℕ) (at : ℕ)
+    → Determined (λ (r : Written × List ℕ). (written (r .0), r .1) ≡ laid (spaceText edition level longitude latitude layer) line at)
+space-write edition level longitude latitude layer line at = written-one (spaceText edition level longitude latitude layer) line at
 
 space-read-one : (a b : SpaceRead) → spaceRead a ≡ spaceRead b → a ≡ b
 space-read-one (space-as.Found c) (space-as.Found d) e = cc
@@ -55,8 +55,8 @@ space-read-one (space-as.Found c) (space-as.Refused r) e = clash (cc)
 space-read-one (space-as.Refused r) (space-as.Found d) e = clash (cc)
 space-read-one (space-as.Refused r) (space-as.Refused q) e = cc
 
-pub space-read : (code : List ℕ) → Determined (λ (r : SpaceRead). spaceRead r ≡ spaceCellOf code)
-space-read code a b e f = space-read-one a b (e ∙ sym f)
+pub space-read : (edition : ℤ) (code : List ℕ) → Determined (λ (r : SpaceRead). spaceRead r ≡ spaceCellIn edition code)
+space-read edition code a b e f = space-read-one a b (e ∙ sym f)
 
 pub reference-write : (base target line : List ℕ) (at : ℕ)
     → Determined (λ (r : Written × List ℕ). (written (r .0), r .1) ≡ laid (referenceText base target) line at)
@@ -91,12 +91,12 @@ hg-plane-write level longitude latitude line at = hg-written-one (planeText leve
 pub hg-plane-read : (code : List ℕ) → Determined (λ (r : HgPlaneCell). r ≡ planeCellOf (cellOf code))
 hg-plane-read code = equal
 
-pub hg-space-write : (level longitude latitude layer : ℤ) (line : List ℕ) (at : ℕ)
-    → Determined (λ (r : HgWritten × List ℕ). (r .0 ≡ writtenOf (laid (spaceText level longitude latitude layer) line at .0)) × (r .1 ≡ laid (spaceText level longitude latitude layer) line at .1))
-hg-space-write level longitude latitude layer line at = hg-written-one (spaceText level longitude latitude layer) line at
+pub hg-space-write : (edition level longitude latitude layer : ℤ) (line : List ℕ) (at : ℕ)
+    → Determined (λ (r : HgWritten × List ℕ). (r .0 ≡ writtenOf (laid (spaceText edition level longitude latitude layer) line at .0)) × (r .1 ≡ laid (spaceText edition level longitude latitude layer) line at .1))
+hg-space-write edition level longitude latitude layer line at = hg-written-one (spaceText edition level longitude latitude layer) line at
 
-pub hg-space-read : (code : List ℕ) → Determined (λ (r : HgSpaceCell). r ≡ spaceCellFor (spaceCellOf code))
-hg-space-read code = equal
+pub hg-space-read : (edition : ℤ) (code : List ℕ) → Determined (λ (r : HgSpaceCell). r ≡ spaceCellFor (spaceCellIn edition code))
+hg-space-read edition code = equal
 
 pub hg-reference-write : (base target line : List ℕ) (at : ℕ)
     → Determined (λ (r : HgWritten × List ℕ). (r .0 ≡ writtenOf (laid (referenceText base target) line at .0)) × (r .1 ≡ laid (referenceText base target) line at .1))

@@ -5,7 +5,7 @@ ghost use mathlib.Core.Path.{_≡_};
 ghost use Rattle.grid.specs.Answers.{accepted, refused, planeRead};
 ghost use Rattle.grid.specs.Laying.{laid, written};
 ghost use Rattle.grid.specs.Plane.{cellOf};
-ghost use Rattle.grid.specs.Space.{spaceCellOf};
+ghost use Rattle.grid.specs.Space.{spaceCellIn};
 ghost use Rattle.plane.specs.Text.{planeText};
 ghost use Rattle.space.specs.Space.{spaceText, spaceRead};
 ghost use Rattle.reference.specs.Text.{referenceText, targetText};
@@ -266,9 +266,10 @@ pub extern "C" fn hg_plane_read(code: &[u8]) -> HgPlaneCell
     plane_cell_of(plane::read(code))
 }
 
-// Writes the space code of a level for a position and a layer. Refusals, in order: 1, 2, 3, 4, 5.
+// Writes the space code of an edition, 1 or 2, and a level for a position and a layer. Refusals, in order: 1, 13, 2, 3, 4, 5.
 #[no_mangle]
 pub extern "C" fn hg_space_write(
+    edition: i64,
     level: i64,
     longitude: i64,
     latitude: i64,
@@ -276,17 +277,17 @@ pub extern "C" fn hg_space_write(
     line: &mut [u8],
     at: usize,
 ) -> HgWritten
-    ensures { λ r. ⌜ (r ≡ writtenOf (laid (spaceText level longitude latitude layer) (now (line .entry)) at .0)) × (now (line .exit) ≡ laid (spaceText level longitude latitude layer) (now (line .entry)) at .1) ⌝ }
+    ensures { λ r. ⌜ (r ≡ writtenOf (laid (spaceText edition level longitude latitude layer) (now (line .entry)) at .0)) × (now (line .exit) ≡ laid (spaceText edition level longitude latitude layer) (now (line .entry)) at .1) ⌝ }
 {
-    written_of(space::write(level, longitude, latitude, layer, line, at))
+    written_of(space::write(edition, level, longitude, latitude, layer, line, at))
 }
 
-// Reads a space code. Refusals, in order: 6, 7.
+// Reads a space code of an edition, 1 or 2. Refusals, in order: 13, 6, 7.
 #[no_mangle]
-pub extern "C" fn hg_space_read(code: &[u8]) -> HgSpaceCell
-    ensures { λ r. ⌜ r ≡ spaceCellFor (spaceCellOf (now (code .entry))) ⌝ }
+pub extern "C" fn hg_space_read(edition: i64, code: &[u8]) -> HgSpaceCell
+    ensures { λ r. ⌜ r ≡ spaceCellFor (spaceCellIn edition (now (code .entry))) ⌝ }
 {
-    space_cell_of(space::read(code))
+    space_cell_of(space::read(edition, code))
 }
 
 // Writes the reference code from a base code to a target code. Refusals, in order: 6, 7 of the base; 6, 7 of the target; 8, 9, 10, 5.

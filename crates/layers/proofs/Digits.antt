@@ -17,7 +17,7 @@ use Rattle.grid.specs.Layers.{product, rise, sign, part, layers}
 use Rattle.grid.proofs.Cut.{clash, part-direct, begins-direct}
 use Rattle.grid.proofs.LayerLaws.{rise-below, all-read}
 use Rattle.layers.specs.Heights.{laterHeight}
-use Rattle.layers.specs.inner.Steps.{heightDigits, fairLater, Fair, thicknessAt, digitAt}
+use Rattle.layers.specs.inner.Steps.{heightDigits, fairLater, Fair, thicknessAt}
 use Rattle.layers.proofs.Radices.{later-fair, first-fair, product-some, ten}
 
 -- ---- the digits of the levels after the first
@@ -87,8 +87,8 @@ height-length (r ∷ rs) (suc l) z e h a b =
 
 -- level k + 1 adds its digit
 pub height-more : (rs : List ℕ) (k : ℕ) (z : ℤ) → Fair rs → index z < product rs → 1 ≤ k → k < 10
-    → heightDigits rs (suc k) z ≡ heightDigits rs k z ++ (digitAt rs k (rise (product rs) z) ∷ [])
-unfolding digitAt thicknessAt
+    → heightDigits rs (suc k) z ≡ heightDigits rs k z ++ ((rise (product rs) z / thicknessAt rs (k + 1) % getD rs k 0) ∷ [])
+unfolding thicknessAt
 height-more rs zero z e h a b = absurd (omega arith)
 height-more [] (suc k) z e h a b = clash (let t = e .test in cc)
 height-more (r ∷ rs) (suc k) z e h a b =

@@ -5,3 +5,4 @@ pub mod Writing
 pub mod Reading
 pub mod Inside
 pub mod Determined
+pub mod Editions

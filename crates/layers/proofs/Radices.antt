@@ -1,7 +1,7 @@
 -- What a fair list of radices says: each radix, and how many layers a cell of each level has.
 -- Assumes nothing.
 use mathlib.Core.Path.{_≡_, refl, sym, ap, subst}
-use mathlib.Core.Bool.{true, _&&_}
+use mathlib.Core.Bool.{Bool, true, false, _&&_}
 use mathlib.Core.List.{List, [], _∷_}
 use Prim.Native.Nat.{ℕ, zero, suc, _+_, _*_, _≤_, _<_}
 use native.Mathlib.Omega.{arith}
@@ -11,13 +11,19 @@ use lib.Dec.{ltb, leb, eqb}
 use lib.ListN.{length, getD, drop, drop-of-length-le}
 use lib.Seq.{drop-cons}
 use borrow.Author.Tests.{ltb-true, leb-true, eqb-true}
-use Rattle.grid.specs.Layers.{radices, product}
+use Rattle.grid.specs.Layers.{product}
 use Rattle.grid.proofs.Cut.{and-true, clash}
+use Rattle.layers.specs.inner.Editions.{radicesOf}
 use Rattle.layers.specs.inner.Steps.{fairLater, Fair, thicknessAt}
 
--- document 01's radices are fair
-pub radices-fair : Fair radices
-radices-fair = record { test = refl }
+-- either edition's radices are fair
+pub edition-fair : (second : Bool) → Fair (radicesOf second)
+edition-fair true = record { test = refl }
+edition-fair false = record { test = refl }
+
+-- and so are those that the code holds
+pub fair-by : (second : Bool) {rs : List ℕ} → rs ≡ radicesOf second → Fair rs
+fair-by second e = subst Fair (sym e) (edition-fair second)
 
 -- ---- the test taken apart
 
@@ -114,3 +120,8 @@ thick-last rs e = ap product (drop-of-length-le rs {i = 10} (omega (arith, ten r
 pub thick-step : (rs : List ℕ) (k : ℕ) → Fair rs → k < 10 → getD rs k 0 * thicknessAt rs (k + 1) ≡ thicknessAt rs k
 unfolding thicknessAt
 thick-step rs k e h = rw (add-one k) (sym (ap product (drop-cons rs k 0 (omega (arith, ten rs e)))))
+
+-- and no radix is 0
+pub radix-some : (rs : List ℕ) (k : ℕ) → Fair rs → k < 10 → 0 < getD rs k 0
+radix-some rs zero e h = first-radix rs e .more
+radix-some rs (suc k) e h = later-radix rs (suc k) e (omega arith) h .more

@@ -1,20 +1,29 @@
 // The height characters of space codes, both ways (document 01, "Layers and the space code").
-// All is written over a list of radices, which goes in by value: called with a constant list and literal numbers it folds to constants.
+// All is written over an edition's list of radices. Only the two lists tell the editions apart.
 
 ghost use mathlib.Core.Path.{_≡_};
 ghost use mathlib.Core.List.{map};
-ghost use Prim.Native.Nat.{ℕ, _+_, _≤_, _<_};
+ghost use Prim.Native.Nat.{ℕ, _+_, _/_, _%_, _≤_, _<_};
 ghost use lib.IntN.{negsuc};
-ghost use lib.ListN.{length};
+ghost use lib.ListN.{length, getD};
 ghost use lib.Seq.{sets};
 ghost use Rattle.grid.specs.Characters.{charOf, digitOf};
-ghost use Rattle.grid.specs.Layers.{radices, product, rise, sign, part, floorOf};
+ghost use Rattle.grid.specs.Layers.{editionIn, product, rise, sign, part, floorOf};
 ghost use Rattle.layers.specs.Heights.{askedOf, layerAsked, stackAnswer, heightAnswer, layersAnswer};
-ghost use Rattle.layers.specs.inner.Steps.{Fair, thicknessAt, layerOf, heightDigits, firstNumber, digitAt, heightCharsAt, HeightWritable, heightOf, Readable, BadAt, HeightFirst, Upto};
+ghost use Rattle.layers.specs.inner.Editions.{radicesOf, editionAsked};
+ghost use Rattle.layers.specs.inner.Steps.{Fair, thicknessAt, layerOf, heightDigits, cellsBelow, firstHeight, laterHeightAt, HeightWritable, heightOf, Readable, BadAt, HeightFirst, Upto};
 use grid::Refusal;
 
-// Document 01's radices, from the coarsest.
-const RADICES: [u32; 10] = [64, 8, 2, 15, 15, 2, 8, 8, 8, 8];
+// The radices of edition 1, document 01's, and of edition 2, cut by bits (document 02, Wish 1); from the coarsest.
+const OURS: [u32; 10] = [64, 8, 2, 15, 15, 2, 8, 8, 8, 8];
+
+const THEIRS: [u32; 10] = [64, 8, 2, 16, 16, 2, 8, 8, 8, 8];
+
+// An edition that is asked for, whether it is the second; or refusal 13.
+pub enum AskedEdition {
+    At(bool),
+    Refused(Refusal),
+}
 
 // A layer that is asked for: whether it lies above ground, and its rise; or refusal 4.
 pub enum AskedLayer {
@@ -37,6 +46,26 @@ struct Height {
     above: bool,
     low: u32,
     thick: u32,
+}
+
+// The edition, or 13 where it is neither 1 nor 2.
+pub fn ask_edition(edition: i64) -> AskedEdition
+    ensures { λ r. ⌜ editionAsked r ≡ editionIn edition ⌝ }
+{
+    if edition == 1 {
+        return AskedEdition::At(false);
+    }
+    if edition == 2 {
+        return AskedEdition::At(true);
+    }
+    AskedEdition::Refused(grid::refuse(13))
+}
+
+// The radices of edition 2, or of edition 1.
+fn radices_of(second: bool) -> [u32; 10]
+    ensures { λ r. ⌜ r ≡ radicesOf second ⌝ }
+{
+    if second { THEIRS } else { OURS }
 }
 
 // How many layers a cell of level k has: the product of the radices after it.
@@ -81,10 +110,10 @@ fn ask_over(rs: [u32; 10], layer: i64) -> AskedLayer
 }
 
 // A layer's side and rise, or refusal 4.
-pub fn ask_layer(layer: i64) -> AskedLayer
-    ensures { λ r. ⌜ layerAsked r ≡ askedOf radices layer ⌝ }
+pub fn ask_layer(second: bool, layer: i64) -> AskedLayer
+    ensures { λ r. ⌜ layerAsked r ≡ askedOf (radicesOf second) layer ⌝ }
 {
-    ask_over(RADICES, layer)
+    ask_over(radices_of(second), layer)
 }
 
 // ---- writing
@@ -96,67 +125,75 @@ fn sign_of(above: bool) -> u8
     if above { b'0' } else { b'1' }
 }
 
-// The number of level 1, which its two decimal digits make: which of the parts of a side holds the rise.
-fn first_number(rs: [u32; 10], rise: u32) -> u32
-    requires { ⌜ Fair rs ⌝ }
-    ensures { λ r. ⌜ r ≡ firstNumber rs rise ⌝ }
+// A number divided by the radix of level k + 1. Either edition divides by a constant: a division by the one radix or the other would be slow.
+fn whole(second: bool, k: usize, v: u32) -> u32
+    requires { ⌜ k < 10 ⌝ }
+    ensures { λ r. ⌜ r ≡ v / getD (radicesOf second) k 0 ⌝ }
 {
-    rise / thickness(rs, 1)
+    if second { v / THEIRS[k] } else { v / OURS[k] }
 }
 
-// The digit of level k + 1, one after the first: which of the parts of the level before holds the rise.
-fn digit_at(rs: [u32; 10], k: usize, rise: u32) -> u32
-    requires { ⌜ Fair rs × (1 ≤ k) × (k < 10) ⌝ }
-    ensures { λ r. ⌜ r ≡ digitAt rs k rise ⌝ }
+// What is left over.
+fn left(second: bool, k: usize, v: u32) -> u32
+    requires { ⌜ k < 10 ⌝ }
+    ensures { λ r. ⌜ r ≡ v % getD (radicesOf second) k 0 ⌝ }
 {
-    rise / thickness(rs, k + 1) % rs[k]
+    if second { v % THEIRS[k] } else { v % OURS[k] }
+}
+
+// How many cells of each level lie below a rise on its side of the ground: of level 1 first. Each level's come from those of the next.
+fn cells_below(second: bool, rise: u32) -> [u32; 10]
+    ensures { λ r. ⌜ r ≡ cellsBelow (radicesOf second) rise ⌝ }
+{
+    let nine = whole(second, 9, rise);
+    let eight = whole(second, 8, nine);
+    let seven = whole(second, 7, eight);
+    let six = whole(second, 6, seven);
+    let five = whole(second, 5, six);
+    let four = whole(second, 4, five);
+    let three = whole(second, 3, four);
+    let two = whole(second, 2, three);
+    let one = whole(second, 1, two);
+    [one, two, three, four, five, six, seven, eight, nine, rise]
 }
 
 // Level 1: the sign, then two decimal digits.
-fn put_first(rs: [u32; 10], above: bool, rise: u32, line: &mut [u8])
-    requires { ⌜ Fair rs × (rise < product rs) × (3 ≤ length (now line)) ⌝ }
-    ensures { λ _. ⌜ now (line .exit) ≡ sets (now (line .entry)) 0 (map charOf (heightDigits rs 1 (layerOf (product rs) above rise))) ⌝ }
+fn put_first(above: bool, n: u32, line: &mut [u8])
+    requires { ⌜ (n < 100) × (3 ≤ length (now line)) ⌝ }
+    ensures { λ _. ⌜ now (line .exit) ≡ sets (now (line .entry)) 0 (firstHeight above n) ⌝ }
 {
-    let d = first_number(rs, rise);
     line[0] = sign_of(above);
-    line[1] = grid::character(d / 10);
-    line[2] = grid::character(d % 10);
+    line[1] = (48 + n / 10) as u8;
+    line[2] = (48 + n % 10) as u8;
 }
 
-// Level k + 1, a later one: nothing where the code ends before it.
-fn put_digit(rs: [u32; 10], level: u32, k: usize, rise: u32, line: &mut [u8])
-    requires { ⌜ Fair rs × (1 ≤ k) × (k < 10) × HeightWritable rs level rise (now line) ⌝ }
-    ensures { λ _. ⌜ now (line .exit) ≡ sets (now (line .entry)) (k + 2) (heightCharsAt rs level k rise) ⌝ }
+// Level k + 1, a later one, n of whose cells lie below the layer: nothing where the code ends before it.
+fn put_digit(second: bool, level: u32, k: usize, n: u32, line: &mut [u8])
+    requires { ⌜ (1 ≤ k) × (k < 10) × (level ≤ 10) × (2 + level ≤ length (now line)) ⌝ }
+    ensures { λ _. ⌜ now (line .exit) ≡ sets (now (line .entry)) (k + 2) (laterHeightAt (radicesOf second) level k n) ⌝ }
 {
     if level as usize <= k {
         return;
     }
-    line[k + 2] = grid::character(digit_at(rs, k, rise));
-}
-
-// All the levels, over any radices.
-fn put_over(rs: [u32; 10], level: u32, above: bool, rise: u32, line: &mut [u8])
-    requires { ⌜ Fair rs × HeightWritable rs level rise (now line) ⌝ }
-    ensures { λ _. ⌜ now (line .exit) ≡ sets (now (line .entry)) 0 (map charOf (heightDigits rs level (layerOf (product rs) above rise))) ⌝ }
-{
-    put_first(rs, above, rise, line);
-    put_digit(rs, level, 1, rise, line);
-    put_digit(rs, level, 2, rise, line);
-    put_digit(rs, level, 3, rise, line);
-    put_digit(rs, level, 4, rise, line);
-    put_digit(rs, level, 5, rise, line);
-    put_digit(rs, level, 6, rise, line);
-    put_digit(rs, level, 7, rise, line);
-    put_digit(rs, level, 8, rise, line);
-    put_digit(rs, level, 9, rise, line);
+    line[k + 2] = grid::character(left(second, k, n));
 }
 
 // The height characters of a code of a level, from the line's beginning on; the bytes after them stay.
-pub fn put(level: u32, above: bool, rise: u32, line: &mut [u8])
-    requires { ⌜ HeightWritable radices level rise (now line) ⌝ }
-    ensures { λ _. ⌜ now (line .exit) ≡ sets (now (line .entry)) 0 (map charOf (heightDigits radices level (layerOf (product radices) above rise))) ⌝ }
+pub fn put(second: bool, level: u32, above: bool, rise: u32, line: &mut [u8])
+    requires { ⌜ HeightWritable (radicesOf second) level rise (now line) ⌝ }
+    ensures { λ _. ⌜ now (line .exit) ≡ sets (now (line .entry)) 0 (map charOf (heightDigits (radicesOf second) level (layerOf (product (radicesOf second)) above rise))) ⌝ }
 {
-    put_over(RADICES, level, above, rise, line);
+    let ns = cells_below(second, rise);
+    put_first(above, ns[0], line);
+    put_digit(second, level, 1, ns[1], line);
+    put_digit(second, level, 2, ns[2], line);
+    put_digit(second, level, 3, ns[3], line);
+    put_digit(second, level, 4, ns[4], line);
+    put_digit(second, level, 5, ns[5], line);
+    put_digit(second, level, 6, ns[6], line);
+    put_digit(second, level, 7, ns[7], line);
+    put_digit(second, level, 8, ns[8], line);
+    put_digit(second, level, 9, ns[9], line);
 }
 
 // ---- reading
@@ -272,11 +309,11 @@ fn read_over(rs: [u32; 10], level: u32, digits: &[u8]) -> LayersRead
 }
 
 // The layers that the height characters of a code of a level lead to, or refusal 7 with the place of the first that is not allowed, among these alone.
-pub fn read(level: u32, digits: &[u8]) -> LayersRead
+pub fn read(second: bool, level: u32, digits: &[u8]) -> LayersRead
     requires { ⌜ Readable level (length (now digits)) ⌝ }
-    ensures { λ r. ⌜ layersAnswer r ≡ heightAnswer radices level (map digitOf (now (digits .entry))) ⌝ }
+    ensures { λ r. ⌜ layersAnswer r ≡ heightAnswer (radicesOf second) level (map digitOf (now (digits .entry))) ⌝ }
 {
-    read_over(RADICES, level, digits)
+    read_over(radices_of(second), level, digits)
 }
 
 // ---- the lower face
@@ -294,9 +331,9 @@ fn floor_over(rs: [u32; 10], above: bool, low: u32) -> i32
 }
 
 // The lowest of the layers read: their rise is from low on.
-pub fn floor(above: bool, low: u32) -> i32
-    requires { ⌜ low < product radices ⌝ }
-    ensures { λ r. ⌜ ((n : ℕ) → r ≡ floorOf (product radices) (part above low n)) ⌝ }
+pub fn floor(second: bool, above: bool, low: u32) -> i32
+    requires { ⌜ low < product (radicesOf second) ⌝ }
+    ensures { λ r. ⌜ ((n : ℕ) → r ≡ floorOf (product (radicesOf second)) (part above low n)) ⌝ }
 {
-    floor_over(RADICES, above, low)
+    floor_over(radices_of(second), above, low)
 }

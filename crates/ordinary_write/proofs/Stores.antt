@@ -16,12 +16,9 @@ use Rattle.grid.specs.Codes.{codeIn}
 use Rattle.grid.specs.Splits.{first}
 use Rattle.grid.specs.inner.Roads.{squareOf}
 use Rattle.grid.specs.Plane.{letter, zone, planeCodes, codeOf}
+use Rattle.grid.proofs.Characters.{char-decimal}
 use Rattle.grid.proofs.Globe.{zone-high}
 use Rattle.grid.proofs.PlaneLaws.{index-unit, side-unit}
-
-char-decimal : (v : ℕ) → v < 10 → charOf v ≡ 48 + v
-unfolding charOf
-char-decimal v h = rw (lt-ltb v 10 h) refl
 
 char-letter : (r : ℕ) → charOf (10 + r) ≡ 65 + r
 unfolding charOf
@@ -42,7 +39,7 @@ first-stored p l {z} hx hy e f g =
       index-unit (p .north) (p .y),
       lt-ltb (p .y) POLAR hy,
       ← e,
-      char-decimal (z / 10) (omega arith),
-      char-decimal (z % 10) (omega arith),
+      ← char-decimal (z / 10) (omega arith),
+      ← char-decimal (z % 10) (omega arith),
       char-letter (p .y / first .height),
     ) refl

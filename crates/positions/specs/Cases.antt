@@ -9,7 +9,7 @@ use Rattle.grid.specs.declared.Cell.{Cell}
 use Rattle.grid.specs.declared.SpaceCell.{SpaceCell}
 use Rattle.grid.specs.Answers.{Answer, accepted, refused, refusal}
 use Rattle.grid.specs.Plane.{cellOf, cellFrom}
-use Rattle.grid.specs.Space.{spaceCellOf}
+use Rattle.grid.specs.Space.{spaceCellIn}
 use Rattle.plane.specs.Text.{planeText}
 use Rattle.space.specs.Space.{spaceText}
 use Rattle.reference.specs.Text.{referenceText, targetText}
@@ -40,10 +40,10 @@ pub data Case : Type 0 where
   writes : ℤ → ℤ → ℤ → String → Case
   -- the plane code: level, west, south, width, height
   reads : String → ℕ → ℤ → ℤ → ℕ → ℕ → Case
-  -- level, longitude, latitude, layer: the space code
-  layers : ℤ → ℤ → ℤ → ℤ → String → Case
-  -- the space code: its plane cell's numbers, floor and thickness
-  stacks : String → ℕ → ℤ → ℤ → ℕ → ℕ → ℤ → ℕ → Case
+  -- edition, level, longitude, latitude, layer: the space code
+  layers : ℤ → ℤ → ℤ → ℤ → ℤ → String → Case
+  -- edition, the space code: its plane cell's numbers, floor and thickness
+  stacks : ℤ → String → ℕ → ℤ → ℤ → ℕ → ℕ → ℤ → ℕ → Case
   -- the reference code: the plane code that it leads to
   leads : String → String → Case
   -- base and target: the reference code between them
@@ -52,6 +52,10 @@ pub data Case : Type 0 where
   outside : ℤ → ℤ → ℤ → ℕ → Case
   -- a plane code that is refused, with number and place
   stops : String → ℕ → ℕ → Case
+  -- edition, level, longitude, latitude and layer that are refused
+  beyond : ℤ → ℤ → ℤ → ℤ → ℤ → ℕ → Case
+  -- edition, and a space code that is refused, with number and place
+  halts : ℤ → String → ℕ → ℕ → Case
 
 -- what a call gives: a text, a cell or a space cell
 pub data Outcome : Type 0 where
@@ -63,23 +67,27 @@ pub data Outcome : Type 0 where
 abbrev pub given : Case → Outcome
 given (writes l u v t) = texts (planeText l u v)
 given (reads t l x y w h) = cells (cellOf (bytes t))
-given (layers l u v z t) = texts (spaceText l u v z)
-given (stacks t l x y w h f n) = spaces (spaceCellOf (bytes t))
+given (layers e l u v z t) = texts (spaceText e l u v z)
+given (stacks e t l x y w h f n) = spaces (spaceCellIn e (bytes t))
 given (leads t s) = texts (targetText (bytes t))
 given (relates b t s) = texts (referenceText (bytes b) (bytes t))
 given (outside l u v n) = texts (planeText l u v)
 given (stops t n p) = cells (cellOf (bytes t))
+given (beyond e l u v z n) = texts (spaceText e l u v z)
+given (halts e t n p) = spaces (spaceCellIn e (bytes t))
 
 -- what document 01 says
 abbrev pub said : Case → Outcome
 said (writes l u v t) = texts (accepted (bytes t))
 said (reads t l x y w h) = cells (accepted (cellFrom l x y w h))
-said (layers l u v z t) = texts (accepted (bytes t))
-said (stacks t l x y w h f n) = spaces (accepted (record { cell = cellFrom l x y w h; floor = f; thickness = n }))
+said (layers e l u v z t) = texts (accepted (bytes t))
+said (stacks e t l x y w h f n) = spaces (accepted (record { cell = cellFrom l x y w h; floor = f; thickness = n }))
 said (leads t s) = texts (accepted (bytes s))
 said (relates b t s) = texts (accepted (bytes s))
 said (outside l u v n) = texts (refused (refusal n 0))
 said (stops t n p) = cells (refused (refusal n p))
+said (beyond e l u v z n) = texts (refused (refusal n 0))
+said (halts e t n p) = spaces (refused (refusal n p))
 
 -- document 01's cases
 abbrev pub paperCases : List Case
@@ -110,12 +118,12 @@ paperCases =
     -- P11 (000, table 1)
     ∷ writes (pos 10) (pos 255316321) (pos 277488284) "N36J93078B3101524314"
     ∷ reads "N36J93078B3101524314" 10 (pos 255316321) (pos 277488284) 1 1
-    ∷ layers (pos 10) (pos 255316321) (pos 277488284) (pos 0) "N036J0093000780B3010010520430140"
-    ∷ stacks "N036J0093000780B3010010520430140" 10 (pos 255316321) (pos 277488284) 1 1 (pos 0) 1
+    ∷ layers (pos 1) (pos 10) (pos 255316321) (pos 277488284) (pos 0) "N036J0093000780B3010010520430140"
+    ∷ stacks (pos 1) "N036J0093000780B3010010520430140" 10 (pos 255316321) (pos 277488284) 1 1 (pos 0) 1
     -- P12
-    ∷ layers (pos 1) (pos 0) (pos 0) (- 1) "N131A63"
-    ∷ stacks "N131A63" 1 (pos 0) (pos 0) 44236800 29491200 (- 29491200) 29491200
-    ∷ layers (pos 4) (pos 0) (pos 0) (pos 1843199) "N031A000000000E"
+    ∷ layers (pos 1) (pos 1) (pos 0) (pos 0) (- 1) "N131A63"
+    ∷ stacks (pos 1) "N131A63" 1 (pos 0) (pos 0) 44236800 29491200 (- 29491200) 29491200
+    ∷ layers (pos 1) (pos 4) (pos 0) (pos 0) (pos 1843199) "N031A000000000E"
     -- P13
     ∷ leads "N50J475492E-10" "N50J475493E"
     ∷ leads "N31A0000000-0A" "S31A0000000"
@@ -130,6 +138,39 @@ paperCases =
     ∷ stops "" 6 0
     ∷ stops "n31A" 7 0
     ∷ reads "N31A" 1 (pos 0) (pos 0) 44236800 29491200
+    ∷ []
+
+-- the two editions, their bits worked out by hand from source 000's annex C.14
+abbrev pub editionCases : List Case
+editionCases =
+    -- layer 0 in both; layer -1, all of whose bits are set
+    layers (pos 2) (pos 10) (pos 255316321) (pos 277488284) (pos 0) "N036J0093000780B3010010520430140"
+    ∷ layers (pos 1) (pos 10) (pos 0) (pos 0) (- 1) "N131A630070100E00E01007007007007"
+    ∷ layers (pos 2) (pos 10) (pos 0) (pos 0) (- 1) "N131A630070100F00F01007007007007"
+    ∷ stacks (pos 2) "N131A630070100F00F01007007007007" 10 (pos 0) (pos 0) 1 1 (- 1) 1
+    -- both ends of both ranges, and one past each
+    ∷ layers (pos 1) (pos 2) (pos 0) (pos 0) (pos 1887436799) "N031A63007"
+    ∷ layers (pos 1) (pos 2) (pos 0) (pos 0) (- 1887436800) "N131A00000"
+    ∷ beyond (pos 1) (pos 2) (pos 0) (pos 0) (pos 1887436800) 4
+    ∷ beyond (pos 1) (pos 2) (pos 0) (pos 0) (- 1887436801) 4
+    ∷ layers (pos 2) (pos 10) (pos 0) (pos 0) (pos 2147483647) "N031A630070100F00F01007007007007"
+    ∷ layers (pos 2) (pos 2) (pos 0) (pos 0) (- 2147483648) "N131A00000"
+    ∷ beyond (pos 2) (pos 2) (pos 0) (pos 0) (pos 2147483648) 4
+    ∷ beyond (pos 2) (pos 2) (pos 0) (pos 0) (- 2147483649) 4
+    -- a layer that edition 1 has not: bits 29, 30, 31 and 24 are set
+    ∷ layers (pos 2) (pos 2) (pos 0) (pos 0) (pos 1887436800) "N031A56002"
+    ∷ stacks (pos 2) "N031A56002" 2 (pos 0) (pos 0) 3686400 3686400 (pos 1887436800) 4194304
+    -- F at levels 4 and 5: a digit in edition 2, refused at its place in edition 1
+    ∷ stacks (pos 2) "N031A000000000F" 4 (pos 0) (pos 0) 122880 122880 (pos 1966080) 131072
+    ∷ halts (pos 1) "N031A000000000F" 7 14
+    ∷ stacks (pos 2) "N031A000000000000F" 5 (pos 0) (pos 0) 8192 8192 (pos 122880) 8192
+    ∷ halts (pos 1) "N031A000000000000F" 7 17
+    -- 13: after 1 and before 2 in writing, before 6 in reading
+    ∷ beyond (pos 3) (pos 0) (pos 0) (pos 0) (pos 0) 1
+    ∷ beyond (pos 3) (pos 1) (pos 1327104000) (pos 0) (pos 0) 13
+    ∷ beyond (- 1) (pos 1) (pos 0) (pos 0) (pos 0) 13
+    ∷ halts (pos 0) "" 13 0
+    ∷ halts (pos 4294967297) "N031A00" 13 0
     ∷ []
 
 -- the cells about the poles, their numbers worked out from document 01's text
@@ -260,4 +301,4 @@ polarCases =
 
 -- the table
 abbrev pub cases : List Case
-cases = paperCases ++ polarCases
+cases = paperCases ++ (editionCases ++ polarCases)

@@ -5,3 +5,4 @@ pub mod Taking
 pub mod Parts
 pub mod Reading
 pub mod Writing
+pub mod Bits

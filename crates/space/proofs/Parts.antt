@@ -1,7 +1,7 @@
 -- A space code's levels, seen as strands of plane characters and height characters. What is needed of all ten is tested by computing.
 -- Assumes nothing.
 use mathlib.Core.Path.{_≡_, refl, sym, _∙_, ap, subst}
-use mathlib.Core.Bool.{true, cond}
+use mathlib.Core.Bool.{Bool, true, false, cond}
 use mathlib.Core.List.{List, [], _∷_, map}
 use Prim.Native.Nat.{ℕ, zero, suc, _+_, _-_, _≤_, _<_}
 use native.Mathlib.Omega.{arith}
@@ -9,66 +9,84 @@ use lib.Dec.{eqb, ltb}
 use lib.ListN.{length, take, getD}
 use lib.Seq.{ext-getD, getD-take, length-take-le}
 use borrow.Author.Tests.{eqb-true, lt-ltb}
-use Rattle.grid.specs.Units.{Cube, OnGrid}
+use Rattle.grid.specs.Units.{Cube}
 use Rattle.grid.specs.Splits.{splits, splitAt}
 use Rattle.grid.specs.Plane.{plane, globe}
-use Rattle.grid.specs.Layers.{radices, product, all, layers}
+use Rattle.grid.specs.Layers.{product, all, layers}
 use Rattle.grid.specs.Both.{Pair}
-use Rattle.grid.specs.Space.{space, spaceLevels, spaceCodes, spaceLengths}
+use Rattle.grid.specs.Space.{space, spaceLevels, spaceCodes, spaceLengths, OnGrid}
 use Rattle.grid.proofs.Cut.{below}
 use Rattle.grid.proofs.Laws.{total}
 use Rattle.grid.proofs.PlaneLaws.{laws}
 use Rattle.grid.proofs.LayerLaws.{layer-laws}
 use Rattle.grid.proofs.BothLaws.{ones, twos, InBoth, GoodBoth}
-use Rattle.grid.proofs.Theorems.{radices-sound, space-sound}
+use Rattle.grid.proofs.Theorems.{isEdition, ours-fair, theirs-fair, space-sound}
 use Rattle.layers.specs.Heights.{heightLevels}
+use Rattle.layers.specs.inner.Editions.{radicesOf}
 use Rattle.space.specs.inner.Weave.{Strand, both-of, parts, strandPlace, firsts, seconds, placeOne, placeTwo}
 use Rattle.space.specs.inner.Parts.{tenStrands, countFrom, planePart, heightPart, planePlace, heightPlace}
 use Rattle.space.proofs.Weaving.{strands, each-some, counted, Sliced, sliced-one, sliced-two, parts-length, part-digit, place-fewer}
 use Rattle.space.proofs.Tables.{length-few, given-at, given-length}
 
-abbrev pub top : ℕ
-top = product radices
+-- an edition's layers on either side of the ground, and its levels
+abbrev pub topOf : Bool → ℕ
+topOf second = product (radicesOf second)
 
-abbrev pub levels : List (Pair plane (layers top))
-levels = spaceLevels top splits radices
+abbrev pub levelsOf : (second : Bool) → List (Pair plane (layers (topOf second)))
+levelsOf second = spaceLevels (topOf second) splits (radicesOf second)
+
+-- either edition passes the test
+pub edition-test : (second : Bool) → isEdition (radicesOf second) ≡ true
+edition-test true = theirs-fair
+edition-test false = ours-fair
 
 -- ---- fewer levels
 
-ones-take : (l : ℕ) (ts : List (Pair plane (layers top))) → ones plane (layers top) (take l ts) ≡ take l (ones plane (layers top) ts)
-ones-take zero ts = refl
-ones-take (suc l) [] = refl
-ones-take (suc l) (t ∷ ts) = ap (λ x. t .one ∷ x) (ones-take l ts)
+module _ (top : ℕ) where
+  ones-take : (l : ℕ) (ts : List (Pair plane (layers top))) → ones plane (layers top) (take l ts) ≡ take l (ones plane (layers top) ts)
+  ones-take zero ts = refl
+  ones-take (suc l) [] = refl
+  ones-take (suc l) (t ∷ ts) = ap (λ x. t .one ∷ x) (ones-take l ts)
 
-twos-take : (l : ℕ) (ts : List (Pair plane (layers top))) → twos plane (layers top) (take l ts) ≡ take l (twos plane (layers top) ts)
-twos-take zero ts = refl
-twos-take (suc l) [] = refl
-twos-take (suc l) (t ∷ ts) = ap (λ x. t .two ∷ x) (twos-take l ts)
+  twos-take : (l : ℕ) (ts : List (Pair plane (layers top))) → twos plane (layers top) (take l ts) ≡ take l (twos plane (layers top) ts)
+  twos-take zero ts = refl
+  twos-take (suc l) [] = refl
+  twos-take (suc l) (t ∷ ts) = ap (λ x. t .two ∷ x) (twos-take l ts)
 
-strands-take : (l : ℕ) (ts : List (Pair plane (layers top))) → strands plane (layers top) (take l ts) ≡ take l (strands plane (layers top) ts)
+  strands-take : (l : ℕ) (ts : List (Pair plane (layers top))) → strands plane (layers top) (take l ts) ≡ take l (strands plane (layers top) ts)
+  unfolding strands
+  strands-take zero ts = refl
+  strands-take (suc l) [] = refl
+  strands-take (suc l) (t ∷ ts) = ap (λ x. record { lead = t .lead; one = t .one .characters; two = t .two .characters } ∷ x) (strands-take l ts)
+
+pub plane-levels : (second : Bool) (l : ℕ) → ones plane (layers (topOf second)) (take l (levelsOf second)) ≡ take l splits
+plane-levels true l = ones-take (topOf true) l (levelsOf true)
+plane-levels false l = ones-take (topOf false) l (levelsOf false)
+
+pub height-levels : (second : Bool) (l : ℕ) → twos plane (layers (topOf second)) (take l (levelsOf second)) ≡ take l (heightLevels (radicesOf second))
+height-levels true l = twos-take (topOf true) l (levelsOf true)
+height-levels false l = twos-take (topOf false) l (levelsOf false)
+
+pub level-strands : (second : Bool) (l : ℕ) → strands plane (layers (topOf second)) (take l (levelsOf second)) ≡ take l tenStrands
 unfolding strands
-strands-take zero ts = refl
-strands-take (suc l) [] = refl
-strands-take (suc l) (t ∷ ts) = ap (λ x. record { lead = t .lead; one = t .one .characters; two = t .two .characters } ∷ x) (strands-take l ts)
-
-pub plane-levels : (l : ℕ) → ones plane (layers top) (take l levels) ≡ take l splits
-plane-levels l = ones-take l levels
-
-pub height-levels : (l : ℕ) → twos plane (layers top) (take l levels) ≡ take l (heightLevels radices)
-height-levels l = twos-take l levels
-
-pub level-strands : (l : ℕ) → strands plane (layers top) (take l levels) ≡ take l tenStrands
-unfolding strands
-level-strands l = strands-take l levels
+level-strands true l = strands-take (topOf true) l (levelsOf true)
+level-strands false l = strands-take (topOf false) l (levelsOf false)
 
 -- ---- the levels can be gone down
 
-pub levels-good : (l : ℕ) → l ≤ 10 → GoodBoth plane (layers top) laws (layer-laws top) (take l levels) (globe, all)
-unfolding spaceCodes radices-sound space-sound
-levels-good l h = radices-sound .fits l h
+pub levels-good : (second : Bool) (l : ℕ) → l ≤ 10 → GoodBoth plane (layers (topOf second)) laws (layer-laws (topOf second)) (take l (levelsOf second)) (globe, all)
+unfolding spaceCodes space-sound
+levels-good second l h = space-sound (radicesOf second) (edition-test second) .fits l h
 
-pub root-in : (s : Cube) → OnGrid s → InBoth plane (layers top) laws (layer-laws top) (globe, all) s
-root-in s o = (o .on-globe, o .layer-in)
+pub root-in : (second : Bool) (s : Cube) → OnGrid (radicesOf second) s → InBoth plane (layers (topOf second)) laws (layer-laws (topOf second)) (globe, all) s
+root-in second s o = (o .on-globe, o .layer-in)
+
+-- and are as long as the codes
+pub long-sum : (second : Bool) (l : ℕ) → 1 ≤ l → l ≤ 10 → total (space (topOf second)) (take l (levelsOf second)) ≡ getD spaceLengths (l - 1) 0
+unfolding total
+long-sum second zero a b = absurd (omega arith)
+long-sum true (suc l) a b = eqb-true _ _ (below (λ l. eqb (total (space (topOf true)) (take (suc l) (levelsOf true))) (getD spaceLengths (suc l - 1) 0)) 10 l refl (omega arith))
+long-sum false (suc l) a b = eqb-true _ _ (below (λ l. eqb (total (space (topOf false)) (take (suc l) (levelsOf false))) (getD spaceLengths (suc l - 1) 0)) 10 l refl (omega arith))
 
 -- ---- what the strands of l levels have
 
@@ -79,10 +97,8 @@ pub record Counted (l : ℕ) : Type 0 where
   pub all-of : counted both-of (take l tenStrands) ≡ getD spaceLengths (l - 1) 0
   pub few-one : splitAt (l - 1) .length ≤ 20
   pub few-two : 2 + l ≤ 12
-  pub sum : total (space top) (take l levels) ≡ getD spaceLengths (l - 1) 0
 
 pub ten : (l : ℕ) → 1 ≤ l → l ≤ 10 → Counted l
-unfolding total
 ten zero a b = absurd (omega arith)
 ten (suc l) a b =
     record {
@@ -92,7 +108,6 @@ ten (suc l) a b =
       all-of = eqb-true _ _ (below (λ l. eqb (counted both-of (take (suc l) tenStrands)) (getD spaceLengths (suc l - 1) 0)) 10 l refl (omega arith));
       few-one = length-few (suc l) a b;
       few-two = omega arith;
-      sum = eqb-true _ _ (below (λ l. eqb (total (space top) (take (suc l) levels)) (getD spaceLengths (suc l - 1) 0)) 10 l refl (omega arith));
     }
 
 -- ---- the parts of a space code of level l, place by place

@@ -17,30 +17,32 @@ use Rattle.grid.specs.Answers.{Answer, refused, wrongLength, wrongCharacter}
 use Rattle.grid.specs.Codes.{placeIn, answer, answerAt, readIn}
 use Rattle.grid.specs.Splits.{splits, splitAt}
 use Rattle.grid.specs.Plane.{Node, globe, plane, planeCodes, cellOf}
-use Rattle.grid.specs.Layers.{radices, Stack, all, layers}
+use Rattle.grid.specs.Layers.{ours, Stack, all, layers}
 use Rattle.grid.specs.Space.{space, spaceCodes, spaceCellOf, spaceLengths}
 use Rattle.grid.proofs.Cut.{below}
 use Rattle.grid.proofs.Laws.{total, follow-ends}
 use Rattle.grid.proofs.PlaneLaws.{laws, splits-fit}
-use Rattle.grid.proofs.LayerLaws.{layer-laws, fitsAll}
+use Rattle.grid.proofs.LayerLaws.{layer-laws}
 use Rattle.grid.proofs.Families.{level-length, length-level}
-use Rattle.grid.proofs.Theorems.{plane-sound, radices-sound}
+use Rattle.grid.proofs.Theorems.{plane-sound, ours-fair, space-sound}
 use Rattle.layers.specs.declared.LayersRead.{LayersRead}
 use Rattle.layers.specs.declared.LayersRead.the-variants as layers-as
 use Rattle.layers.specs.Heights.{heightLevels, heightRead, stackAnswer, heightAnswer, layersAnswer}
-use Rattle.layers.proofs.Radices.{radices-fair}
-use Rattle.layers.proofs.Inside.{read-inside}
+use Rattle.layers.specs.inner.Editions.{radicesOf}
+use Rattle.layers.proofs.Radices.{edition-fair}
+use Rattle.layers.proofs.Inside.{levels-fit, read-inside}
 use Rattle.plane.specs.inner.Lengths.{orZero}
 use Rattle.space.specs.inner.Weave.{Strand, firsts, seconds, placeTwo, together}
 use Rattle.space.specs.inner.Parts.{spaceLevelOf, tenStrands, planePart, heightPart, planePlace, heightPlace, earlier, joinedAnswer, Lying}
 use Rattle.space.proofs.Weaving.{sliced-one, sliced-two, parts-map, follow-woven}
 use Rattle.space.proofs.Parts.{
-  top,
-  levels,
+  topOf,
+  levelsOf,
   plane-levels,
   height-levels,
   level-strands,
   levels-good,
+  long-sum,
   Counted,
   ten,
   plane-same,
@@ -68,17 +70,17 @@ leveled n {l} e h = go (placeIn n 1 spaceLengths) refl
     go none p = absurd (h (e ∙ ap orZero p))
     go (some k) p =
         let q : l ≡ k = e ∙ ap orZero p in
-        let t = level-length (spaceCodes radices) radices-sound n k p in
-        subst (Leveled n) (sym q) (record { place = p; low = t .0; high = t .1; long = t .2 ∙ ten k (t .0) (t .1) .sum })
+        let t = level-length (spaceCodes ours) (space-sound ours ours-fair) n k p in
+        subst (Leveled n) (sym q) (record { place = p; low = t .0; high = t .1; long = t .2 ∙ long-sum false k (t .0) (t .1) })
 
-pub read-none : (w : List ℕ) {l : ℕ} → l ≡ spaceLevelOf (length w) → l ≡ 0 → refused wrongLength ≡ spaceCellOf w
+pub read-none : (rs w : List ℕ) {l : ℕ} → l ≡ spaceLevelOf (length w) → l ≡ 0 → refused wrongLength ≡ spaceCellOf rs w
 unfolding spaceLevelOf spaceCellOf readIn spaceCodes
-read-none w {l} e h = go (placeIn (length w) 1 spaceLengths) refl
+read-none rs w {l} e h = go (placeIn (length w) 1 spaceLengths) refl
   where
-    go : (o : Option ℕ) → placeIn (length w) 1 spaceLengths ≡ o → refused wrongLength ≡ answerAt (spaceCodes radices) w o
+    go : (o : Option ℕ) → placeIn (length w) 1 spaceLengths ≡ o → refused wrongLength ≡ answerAt (spaceCodes rs) w o
     go none p = refl
     go (some k) p =
-        let t = level-length (spaceCodes radices) radices-sound (length w) k p in
+        let t = level-length (spaceCodes ours) (space-sound ours ours-fair) (length w) k p in
         let z : l ≡ k = e ∙ ap orZero p in
         absurd (omega (arith, t .0))
 
@@ -89,13 +91,11 @@ unfolding total
 plane-total zero a b = absurd (omega arith)
 plane-total (suc l) a b = eqb-true _ _ (below (λ l. eqb (total plane (take (suc l) splits)) (splitAt (suc l - 1) .length)) 10 l refl (omega arith))
 
-height-total : (l : ℕ) → 1 ≤ l → l ≤ 10 → total (layers top) (take l (heightLevels radices)) ≡ 2 + l
+height-total : (second : Bool) (l : ℕ) → 1 ≤ l → l ≤ 10 → total (layers (topOf second)) (take l (heightLevels (radicesOf second))) ≡ 2 + l
 unfolding total
-height-total zero a b = absurd (omega arith)
-height-total (suc l) a b = eqb-true _ _ (below (λ l. eqb (total (layers top) (take (suc l) (heightLevels radices))) (2 + suc l)) 10 l refl (omega arith))
-
-heights-fit : (l : ℕ) → l ≤ 10 → fitsAll (take l (heightLevels radices)) top ≡ true
-heights-fit l h = below (λ l. fitsAll (take l (heightLevels radices)) top) 11 l refl (omega arith)
+height-total second zero a b = absurd (omega arith)
+height-total true (suc l) a b = eqb-true _ _ (below (λ l. eqb (total (layers (topOf true)) (take (suc l) (heightLevels (radicesOf true)))) (2 + suc l)) 10 l refl (omega arith))
+height-total false (suc l) a b = eqb-true _ _ (below (λ l. eqb (total (layers (topOf false)) (take (suc l) (heightLevels (radicesOf false)))) (2 + suc l)) 10 l refl (omega arith))
 
 -- the lesser of two places is that of the earlier refusal
 lesser : (p q : ℕ) → wrongCharacter (min p q) ≡ earlier (wrongCharacter p) (wrongCharacter q)
@@ -105,7 +105,13 @@ lesser p q = go (ltb p q) refl
     go true e = let h : p < q = ltb-true p q e in ap wrongCharacter (omega arith)
     go false e = let h : q ≤ p = ltb-false p q e in ap wrongCharacter (omega arith)
 
-module _ (l : ℕ) (low : 1 ≤ l) (high : l ≤ 10) where
+module _ (second : Bool) (l : ℕ) (low : 1 ≤ l) (high : l ≤ 10) where
+  abbrev rs : List ℕ
+  rs = radicesOf second
+
+  abbrev top : ℕ
+  top = topOf second
+
   C : Counted l
   C = ten l low high
 
@@ -115,15 +121,15 @@ module _ (l : ℕ) (low : 1 ≤ l) (high : l ≤ 10) where
       let t = plane-total l low high in
       subst (λ (x : ℕ). p < x) t (follow-ends plane laws (take l splits) globe d p (splits-fit l high) (e ∙ sym t) f .inside)
 
-  height-inside : (d : List ℕ) (q : ℕ) → length d ≡ 2 + l → heightRead radices l d ≡ bad q → q < 2 + l
+  height-inside : (d : List ℕ) (q : ℕ) → length d ≡ 2 + l → heightRead rs l d ≡ bad q → q < 2 + l
   unfolding heightRead
   height-inside d q e f =
-      let t = height-total l low high in
-      subst (λ (x : ℕ). q < x) t (follow-ends (layers top) (layer-laws top) (take l (heightLevels radices)) all d q (heights-fit l high) (e ∙ sym t) f .inside)
+      let t = height-total second l low high in
+      subst (λ (x : ℕ). q < x) t (follow-ends (layers top) (layer-laws top) (take l (heightLevels rs)) all d q (levels-fit rs l (edition-fair second)) (e ∙ sym t) f .inside)
 
   -- the two readings, as answers and together
   as-joined : (ra : Read Node) (rb : Read Stack) → ((p : ℕ) → ra ≡ bad p → p < splitAt (l - 1) .length) → ((q : ℕ) → rb ≡ bad q → q < 2 + l)
-      → unfold planeCodes spaceCodes in (answer (spaceCodes radices) l (together (take l tenStrands) ra rb) ≡ joinedAnswer (answer planeCodes l ra) (stackAnswer rb))
+      → unfold planeCodes spaceCodes in (answer (spaceCodes rs) l (together (take l tenStrands) ra rb) ≡ joinedAnswer top (answer planeCodes l ra) (stackAnswer rb))
   unfolding planeCodes spaceCodes
   as-joined (ok n) (ok m) ha hb = refl
   as-joined (ok n) (bad q) ha hb = ap (λ (x : ℕ). refused (wrongCharacter x)) (height-place l C q (hb q refl))
@@ -143,15 +149,15 @@ module _ (l : ℕ) (low : 1 ≤ l) (high : l ≤ 10) where
     S = take l tenStrands
 
     -- the two parts read together
-    both-read : follow (space top) (take l levels) (globe, all) (map digitOf w)
-        ≡ together S (follow plane (take l splits) globe (map digitOf (firsts S w))) (heightRead radices l (map digitOf (seconds S w)))
+    both-read : follow (space top) (take l (levelsOf second)) (globe, all) (map digitOf w)
+        ≡ together S (follow plane (take l splits) globe (map digitOf (firsts S w))) (heightRead rs l (map digitOf (seconds S w)))
     unfolding heightRead
     both-read =
-        follow-woven plane (layers top) laws (layer-laws top) (take l levels) (globe, all) (map digitOf w) (levels-good l high) (length-map w digitOf ∙ long ∙ sym (C .sum))
-        ∙ rw (plane-levels l, height-levels l, level-strands l, parts-map sliced-one digitOf S w, parts-map sliced-two digitOf S w) refl
+        follow-woven plane (layers top) laws (layer-laws top) (take l (levelsOf second)) (globe, all) (map digitOf w) (levels-good second l high) (length-map w digitOf ∙ long ∙ sym (long-sum second l low high))
+        ∙ rw (plane-levels second l, height-levels second l, level-strands second l, parts-map sliced-one digitOf S w, parts-map sliced-two digitOf S w) refl
 
     pub read-parts : placeIn (length w) 1 spaceLengths ≡ some l
-        → joinedAnswer (cellOf (take (splitAt (l - 1) .length) (planePart w))) (heightAnswer radices l (map digitOf (take (2 + l) (heightPart w)))) ≡ spaceCellOf w
+        → joinedAnswer top (cellOf (take (splitAt (l - 1) .length) (planePart w))) (heightAnswer rs l (map digitOf (take (2 + l) (heightPart w)))) ≡ spaceCellOf rs w
     unfolding spaceCellOf readIn spaceCodes planeCodes
     read-parts q =
         let a = plane-same l C w long in
@@ -159,18 +165,18 @@ module _ (l : ℕ) (low : 1 ≤ l) (high : l ≤ 10) where
         let fa = firsts S w in
         let fb = seconds S w in
         rw (a, b, q, both-read, cell-of fa (plane-long l C w long))
-        (sym (as-joined (follow plane (take l splits) globe (map digitOf fa)) (heightRead radices l (map digitOf fb))
+        (sym (as-joined (follow plane (take l splits) globe (map digitOf fa)) (heightRead rs l (map digitOf fb))
         (λ p e. plane-inside (map digitOf fa) p (length-map fa digitOf ∙ plane-long l C w long) e)
         (λ p e. height-inside (map digitOf fb) p (length-map fb digitOf ∙ height-long l C w long) e)))
 
 -- the reader's answer, from its two parts' answers
-pub read-joined : (w : List ℕ) (l : ℕ) → Leveled (length w) l → {r : Answer SpaceCell} {a : Answer Cell} {b : Answer Stack} → r ≡ joinedAnswer a b
-    → a ≡ cellOf (take (splitAt (l - 1) .length) (planePart w)) → b ≡ heightAnswer radices l (map digitOf (take (2 + l) (heightPart w))) → r ≡ spaceCellOf w
-read-joined w l t {a = a} {b = b} e f g =
-    e ∙ ap (λ x. joinedAnswer x b) f ∙ ap (λ x. joinedAnswer (cellOf (take (splitAt (l - 1) .length) (planePart w))) x) g
-    ∙ read-parts l (t .low) (t .high) w (t .long) (t .place)
+pub read-joined : (second : Bool) (w : List ℕ) (l : ℕ) → Leveled (length w) l → {r : Answer SpaceCell} {a : Answer Cell} {b : Answer Stack} → r ≡ joinedAnswer (topOf second) a b
+    → a ≡ cellOf (take (splitAt (l - 1) .length) (planePart w)) → b ≡ heightAnswer (radicesOf second) l (map digitOf (take (2 + l) (heightPart w))) → r ≡ spaceCellOf (radicesOf second) w
+read-joined second w l t {a = a} {b = b} e f g =
+    e ∙ ap (λ x. joinedAnswer (topOf second) x b) f ∙ ap (λ x. joinedAnswer (topOf second) (cellOf (take (splitAt (l - 1) .length) (planePart w))) x) g
+    ∙ read-parts second l (t .low) (t .high) w (t .long) (t .place)
 
 -- layers that were read lie in their range
-pub lying : (l : ℕ) (ds : List ℕ) (h : LayersRead) → layersAnswer h ≡ heightAnswer radices l ds → Lying h
-lying l ds (layers-as.Found above low thick) e = let r = read-inside radices l ds radices-fair (sym e) in omega (arith, r .0, r .1)
-lying l ds (layers-as.Refused q) e = tt
+pub lying : (second : Bool) (l : ℕ) (ds : List ℕ) (h : LayersRead) → layersAnswer h ≡ heightAnswer (radicesOf second) l ds → Lying (topOf second) h
+lying second l ds (layers-as.Found above low thick) e = let r = read-inside (radicesOf second) l ds (edition-fair second) (sym e) in omega (arith, r .0, r .1)
+lying second l ds (layers-as.Refused q) e = tt

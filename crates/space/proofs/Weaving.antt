@@ -190,18 +190,18 @@ sliced-two =
       natural = λ f t d. second-map f (t .lead) (t .one) d;
     }
 
+pub some-of : (t : Strand) (ts : List Strand) → each-some (t ∷ ts) ≡ true → (0 < t .one) × (0 < t .two) × (each-some ts ≡ true)
+some-of t ts e =
+    let a = and-true (ltb 0 (t .one) && ltb 0 (t .two)) (each-some ts) e in
+    let b = and-true (ltb 0 (t .one)) (ltb 0 (t .two)) (a .0) in
+    (ltb-true 0 _ (b .0), ltb-true 0 _ (b .1), a .1)
+
 module _ {part : Strand → List ℕ → List ℕ} {count : Strand → ℕ} {place : Strand → ℕ → ℕ} (S : Sliced part count place) where
   pub parts-map : (f : ℕ → ℕ) (ts : List Strand) (w : List ℕ) → parts part ts (map f w) ≡ map f (parts part ts w)
   unfolding parts
   parts-map f [] w = refl
   parts-map f (t ∷ ts) w =
       rw (take-map f (both-of t) w, S .natural f t (take (both-of t) w), drop-map f (both-of t) w, parts-map f ts (drop (both-of t) w)) (sym (map-append f (part t (take (both-of t) w)) _))
-
-  some-of : (t : Strand) (ts : List Strand) → each-some (t ∷ ts) ≡ true → (0 < t .one) × (0 < t .two) × (each-some ts ≡ true)
-  some-of t ts e =
-      let a = and-true (ltb 0 (t .one) && ltb 0 (t .two)) (each-some ts) e in
-      let b = and-true (ltb 0 (t .one)) (ltb 0 (t .two)) (a .0) in
-      (ltb-true 0 _ (b .0), ltb-true 0 _ (b .1), a .1)
 
   pub parts-length : (ts : List Strand) (w : List ℕ) → each-some ts ≡ true → length w ≡ counted both-of ts → length (parts part ts w) ≡ counted count ts
   unfolding parts

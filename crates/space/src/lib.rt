@@ -1,25 +1,26 @@
-// Space codes of levels 1 to 10 (document 01): from position and layer to code, and from code to space cell.
+// Space codes of levels 1 to 10 (document 01), in two editions (document 02, Wish 1): from position and layer to code, and from code to space cell.
 // A space code is woven of its plane code and its height characters: both are built apart, and then laid into the line; a reader takes them apart.
 
 ghost use mathlib.Core.Path.{_≡_};
 ghost use mathlib.Core.List.{map};
-ghost use Prim.Native.Nat.{_+_, _-_, _≤_, _<_};
+ghost use Prim.Native.Nat.{ℕ, _+_, _-_, _≤_, _<_};
 ghost use lib.ListN.{length, getD, take};
 ghost use lib.Seq.{sets};
 ghost use Rattle.grid.specs.Units.{HALF, QUARTER};
 ghost use Rattle.grid.specs.Answers.{accepted, refused, planeRead};
 ghost use Rattle.grid.specs.Laying.{laid, written};
-ghost use Rattle.grid.specs.Space.{spaceCodeOf, spaceCellOf, spaceLengths};
+ghost use Rattle.grid.specs.Space.{spaceCodeOf, spaceCellOf, spaceCellIn, spaceLengths};
 ghost use Rattle.grid.specs.inner.Roads.{squareOf};
 ghost use Rattle.grid.specs.Characters.{digitOf};
 ghost use Rattle.grid.specs.Splits.{splitAt};
 ghost use Rattle.grid.specs.Plane.{cellOf};
-ghost use Rattle.grid.specs.Layers.{radices, product, part};
+ghost use Rattle.grid.specs.Layers.{product, part};
 ghost use Rattle.layers.specs.Heights.{heightAnswer, layersAnswer};
+ghost use Rattle.layers.specs.inner.Editions.{radicesOf};
 ghost use Rattle.layers.specs.inner.Steps.{layerOf};
 ghost use Rattle.space.specs.inner.Weave.{spread, stored};
 ghost use lib.Dec.{ltb};
-ghost use Rattle.space.specs.Space.{layeredText, spaceTextAt, spaceText, spaceRead};
+ghost use Rattle.space.specs.Space.{layeredText, spaceTextAt, spaceTextIn, spaceText, spaceRead};
 ghost use Rattle.space.specs.inner.Asking.{SpaceFits, SpaceRoom};
 ghost use Rattle.space.specs.inner.Parts.{spaceLevelOf, planePart, heightPart, planePlace, heightPlace, earlier, joinedAnswer, Lying};
 use grid::Cell;
@@ -28,6 +29,7 @@ use grid::PlaneRead;
 use grid::Refusal;
 use grid::SpaceCell;
 use grid::Written;
+use layers::AskedEdition;
 use layers::AskedLayer;
 use layers::LayersRead;
 use plane::AskedLevel;
@@ -335,22 +337,30 @@ fn lay_height(level: u32, part: &[u8], line: &mut [u8])
 }
 
 // Writes the space code from the line's first byte on: the plane characters and the height characters, built apart and laid each at its place.
-fn put(l: u32, p: Place, above: bool, rise: u32, line: &mut [u8])
-    requires { ⌜ SpaceFits l p rise × (getD spaceLengths (l - 1) 0 ≤ length (now line)) ⌝ }
-    ensures { λ _. ⌜ now (line .exit) ≡ sets (now (line .entry)) 0 (spaceCodeOf l (squareOf p, layerOf (product radices) above rise)) ⌝ }
+fn put(second: bool, l: u32, p: Place, above: bool, rise: u32, line: &mut [u8])
+    requires { ⌜ SpaceFits second l p rise × (getD spaceLengths (l - 1) 0 ≤ length (now line)) ⌝ }
+    ensures { λ _. ⌜ now (line .exit) ≡ sets (now (line .entry)) 0 (spaceCodeOf (radicesOf second) l (squareOf p, layerOf (product (radicesOf second)) above rise)) ⌝ }
 {
     let mut flat = [0u8; 20];
     plane::put(l, p.east, p.north, p.x, p.y, &mut flat);
     lay_plane(l, &flat, line);
     let mut high = [0u8; 12];
-    layers::put(l, above, rise, &mut high);
+    layers::put(second, l, above, rise, &mut high);
     lay_height(l, &high, line);
 }
 
 // Lays the space code into the line from `at` on, if there is room: refusal 5, else the number of bytes.
-fn lay(l: u32, p: Place, above: bool, rise: u32, line: &mut [u8], at: usize) -> Written
-    requires { ⌜ SpaceFits l p rise ⌝ }
-    ensures { λ r. ⌜ (written r, now (line .exit)) ≡ laid (accepted (spaceCodeOf l (squareOf p, layerOf (product radices) above rise))) (now (line .entry)) at ⌝ }
+fn lay(
+    second: bool,
+    l: u32,
+    p: Place,
+    above: bool,
+    rise: u32,
+    line: &mut [u8],
+    at: usize,
+) -> Written
+    requires { ⌜ SpaceFits second l p rise ⌝ }
+    ensures { λ r. ⌜ (written r, now (line .exit)) ≡ laid (accepted (spaceCodeOf (radicesOf second) l (squareOf p, layerOf (product (radicesOf second)) above rise))) (now (line .entry)) at ⌝ }
 {
     let n = length_of(l);
     if line.len() < at {
@@ -359,23 +369,24 @@ fn lay(l: u32, p: Place, above: bool, rise: u32, line: &mut [u8], at: usize) -> 
     if line.len() - at < n {
         return Written::Refused(grid::refuse(5));
     }
-    put(l, p, above, rise, &mut line[at..]);
+    put(second, l, p, above, rise, &mut line[at..]);
     Written::Bytes(n)
 }
 
 // The space code of a level for a place and a layer: refusals 4 and 5, in that order.
-fn write_over(l: u32, p: Place, layer: i64, line: &mut [u8], at: usize) -> Written
+fn write_over(second: bool, l: u32, p: Place, layer: i64, line: &mut [u8], at: usize) -> Written
     requires { ⌜ (1 ≤ l) × (l ≤ 10) × (p .x < HALF) × (p .y < QUARTER) ⌝ }
-    ensures { λ r. ⌜ (written r, now (line .exit)) ≡ laid (layeredText l (squareOf p) layer) (now (line .entry)) at ⌝ }
+    ensures { λ r. ⌜ (written r, now (line .exit)) ≡ laid (layeredText (radicesOf second) l (squareOf p) layer) (now (line .entry)) at ⌝ }
 {
-    match layers::ask_layer(layer) {
-        AskedLayer::At(above, rise) => lay(l, p, above, rise, line, at),
+    match layers::ask_layer(second, layer) {
+        AskedLayer::At(above, rise) => lay(second, l, p, above, rise, line, at),
         AskedLayer::Refused(r) => Written::Refused(r),
     }
 }
 
 // The space code of a level for a position and a layer: refusals 2, 3, 4 and 5, in that order.
 fn write_at(
+    second: bool,
     l: u32,
     longitude: i64,
     latitude: i64,
@@ -384,16 +395,37 @@ fn write_at(
     at: usize,
 ) -> Written
     requires { ⌜ (1 ≤ l) × (l ≤ 10) ⌝ }
-    ensures { λ r. ⌜ (written r, now (line .exit)) ≡ laid (spaceTextAt l longitude latitude layer) (now (line .entry)) at ⌝ }
+    ensures { λ r. ⌜ (written r, now (line .exit)) ≡ laid (spaceTextAt (radicesOf second) l longitude latitude layer) (now (line .entry)) at ⌝ }
 {
     match plane::ask_position(1, longitude, latitude) {
-        AskedPosition::At(p) => write_over(l, p, layer, line, at),
+        AskedPosition::At(p) => write_over(second, l, p, layer, line, at),
         AskedPosition::Refused(r) => Written::Refused(r),
     }
 }
 
-// The space code of a position and a layer, written into the line from `at` on. Refusals 1, 2, 3, 4 and 5, in that order; a refusal changes no byte.
+// The same in an edition by its number: refusal 13 first.
+fn write_in(
+    edition: i64,
+    l: u32,
+    longitude: i64,
+    latitude: i64,
+    layer: i64,
+    line: &mut [u8],
+    at: usize,
+) -> Written
+    requires { ⌜ (1 ≤ l) × (l ≤ 10) ⌝ }
+    ensures { λ r. ⌜ (written r, now (line .exit)) ≡ laid (spaceTextIn edition l longitude latitude layer) (now (line .entry)) at ⌝ }
+{
+    match layers::ask_edition(edition) {
+        AskedEdition::At(second) => write_at(second, l, longitude, latitude, layer, line, at),
+        AskedEdition::Refused(r) => Written::Refused(r),
+    }
+}
+
+// The space code of a position and a layer in an edition, written into the line from `at` on. Refusals 1, 13, 2, 3, 4 and 5, in that order; a refusal
+// changes no byte.
 pub fn write(
+    edition: i64,
     level: i64,
     longitude: i64,
     latitude: i64,
@@ -401,10 +433,10 @@ pub fn write(
     line: &mut [u8],
     at: usize,
 ) -> Written
-    ensures { λ r. ⌜ (written r, now (line .exit)) ≡ laid (spaceText level longitude latitude layer) (now (line .entry)) at ⌝ }
+    ensures { λ r. ⌜ (written r, now (line .exit)) ≡ laid (spaceText edition level longitude latitude layer) (now (line .entry)) at ⌝ }
 {
     match plane::ask_level(level) {
-        AskedLevel::At(l) => write_at(l, longitude, latitude, layer, line, at),
+        AskedLevel::At(l) => write_in(edition, l, longitude, latitude, layer, line, at),
         AskedLevel::Refused(r) => Written::Refused(r),
     }
 }
@@ -419,14 +451,14 @@ fn earlier(r: Refusal, q: Refusal) -> Refusal
 }
 
 // The plane's answer over layers that were read: the cell with them, or the bad plane character.
-fn over_layers(a: PlaneRead, above: bool, low: u32, thick: u32) -> SpaceRead
-    requires { ⌜ low < product radices ⌝ }
-    ensures { λ r. ⌜ spaceRead r ≡ joinedAnswer (planeRead a) (accepted (part above low thick)) ⌝ }
+fn over_layers(second: bool, a: PlaneRead, above: bool, low: u32, thick: u32) -> SpaceRead
+    requires { ⌜ low < product (radicesOf second) ⌝ }
+    ensures { λ r. ⌜ spaceRead r ≡ joinedAnswer (product (radicesOf second)) (planeRead a) (accepted (part above low thick)) ⌝ }
 {
     match a {
         PlaneRead::Found(c) => SpaceRead::Found(SpaceCell {
             cell: c,
-            floor: layers::floor(above, low),
+            floor: layers::floor(second, above, low),
             thickness: thick,
         }),
         PlaneRead::Refused(r) => SpaceRead::Refused(grid::at_place(plane_place(r.place), r)),
@@ -435,7 +467,7 @@ fn over_layers(a: PlaneRead, above: bool, low: u32, thick: u32) -> SpaceRead
 
 // A bad height character, unless a bad plane character stands before it.
 fn over_bad(a: PlaneRead, q: Refusal) -> SpaceRead
-    ensures { λ r. ⌜ spaceRead r ≡ joinedAnswer (planeRead a) (refused q) ⌝ }
+    ensures { λ r. ⌜ ((top : ℕ) → spaceRead r ≡ joinedAnswer top (planeRead a) (refused q)) ⌝ }
 {
     let high = grid::at_place(height_place(q.place), q);
     match a {
@@ -448,12 +480,12 @@ fn over_bad(a: PlaneRead, q: Refusal) -> SpaceRead
 }
 
 // Both answers together.
-fn joined(a: PlaneRead, h: LayersRead) -> SpaceRead
-    requires { ⌜ Lying h ⌝ }
-    ensures { λ r. ⌜ spaceRead r ≡ joinedAnswer (planeRead a) (layersAnswer h) ⌝ }
+fn joined(second: bool, a: PlaneRead, h: LayersRead) -> SpaceRead
+    requires { ⌜ Lying (product (radicesOf second)) h ⌝ }
+    ensures { λ r. ⌜ spaceRead r ≡ joinedAnswer (product (radicesOf second)) (planeRead a) (layersAnswer h) ⌝ }
 {
     match h {
-        LayersRead::Found(above, low, thick) => over_layers(a, above, low, thick),
+        LayersRead::Found(above, low, thick) => over_layers(second, a, above, low, thick),
         LayersRead::Refused(q) => over_bad(a, q),
     }
 }
@@ -470,25 +502,36 @@ fn plane_of(level: u32, code: &[u8]) -> PlaneRead
 }
 
 // The height characters of a space code, read.
-fn height_of(level: u32, code: &[u8]) -> LayersRead
+fn height_of(second: bool, level: u32, code: &[u8]) -> LayersRead
     requires { ⌜ SpaceRoom level (now code) ⌝ }
-    ensures { λ r. ⌜ layersAnswer r ≡ heightAnswer radices level (map digitOf (take (2 + level) (heightPart (now (code .entry))))) ⌝ }
+    ensures { λ r. ⌜ layersAnswer r ≡ heightAnswer (radicesOf second) level (map digitOf (take (2 + level) (heightPart (now (code .entry))))) ⌝ }
 {
     let mut h = [0u8; 12];
     height_part(level, code, &mut h);
     let n = 2 + level as usize;
-    layers::read(level, &h[..n])
+    layers::read(second, level, &h[..n])
 }
 
-// The space cell of a space code. Refusals 6 and 7, in that order; 7 has the place of the first bad character in the whole space code.
-pub fn read(code: &[u8]) -> SpaceRead
-    ensures { λ r. ⌜ spaceRead r ≡ spaceCellOf (now (code .entry)) ⌝ }
+// The space cell of a space code of an edition: refusals 6 and 7, in that order.
+fn read_in(second: bool, code: &[u8]) -> SpaceRead
+    ensures { λ r. ⌜ spaceRead r ≡ spaceCellOf (radicesOf second) (now (code .entry)) ⌝ }
 {
     let level = level_of(code.len());
     if level == 0 {
         return SpaceRead::Refused(grid::refuse(6));
     }
     let a = plane_of(level, code);
-    let h = height_of(level, code);
-    joined(a, h)
+    let h = height_of(second, level, code);
+    joined(second, a, h)
+}
+
+// The space cell of a space code of an edition by its number. Refusals 13, 6 and 7, in that order; 7 has the place of the first bad character in the
+// whole space code.
+pub fn read(edition: i64, code: &[u8]) -> SpaceRead
+    ensures { λ r. ⌜ spaceRead r ≡ spaceCellIn edition (now (code .entry)) ⌝ }
+{
+    match layers::ask_edition(edition) {
+        AskedEdition::At(second) => read_in(second, code),
+        AskedEdition::Refused(r) => SpaceRead::Refused(r),
+    }
 }

@@ -2,7 +2,7 @@
 
 use super::Random;
 use crate::plane::{self, listing, LENGTHS};
-use crate::space;
+use crate::space::{self, Edition};
 
 /// A bad character: mostly one that is good elsewhere in a code.
 pub fn other_character(random: &mut Random) -> u8 {
@@ -72,9 +72,13 @@ fn allowed(random: &mut Random, walk: Option<plane::walk::Walk>, place: usize, z
     b'0'
 }
 
+/// How many characters a space code of this edition may have at each place
+/// where level 2 to 10 has its height.
+const HEIGHTS: [[u64; 9]; 2] = [[8, 2, 15, 15, 2, 8, 8, 8, 8], [8, 2, 16, 16, 2, 8, 8, 8, 8]];
+
 /// A random space code: a walked plane code with heights between, mostly
 /// allowed ones. Of a space length.
-pub fn space_text(random: &mut Random) -> ([u8; 32], usize) {
+pub fn space_text(random: &mut Random, edition: Edition) -> ([u8; 32], usize) {
     let (flat, length) = walked_code(random);
     let level = LENGTHS.iter().position(|&one| one == length).unwrap_or(0);
     let mut code = [b'0'; 32];
@@ -87,7 +91,7 @@ pub fn space_text(random: &mut Random) -> ([u8; 32], usize) {
             b's' => random.pick(b"01"),
             b't' => random.pick(b"0123456"),
             _ if at == 0 => random.pick(b"0123456789"),
-            _ => b"0123456789ABCDE"[random.below(space::RADICES[at] as u64) as usize],
+            _ => b"0123456789ABCDEF"[random.below(HEIGHTS[edition as usize - 1][at - 1]) as usize],
         };
         at += usize::from(*turn == b'h');
     }

@@ -2,7 +2,7 @@
 
 use super::{near_edge, Random, HEIGHTS, WIDTHS};
 use crate::plane::{self, DEGREE, LATITUDE, LONGITUDE, POLAR_INDEX, TURN};
-use crate::space::LAYER;
+use crate::space::Edition;
 
 /// Adds a number and its neighbours.
 fn around(list: &mut Vec<i64>, number: i64) {
@@ -58,31 +58,69 @@ pub fn edge_latitudes() -> Vec<i64> {
     tidy(list, LATITUDE)
 }
 
+/// Thicknesses of the height cells of levels 1 to 10.
+fn thicknesses(edition: Edition) -> [i64; 10] {
+    match edition {
+        Edition::Ours => [29_491_200, 3_686_400, 1_843_200, 122_880, 8_192, 4_096, 512, 64, 8, 1],
+        Edition::Theirs => [25, 22, 21, 17, 13, 12, 9, 6, 3, 0].map(|bits| 1 << bits),
+    }
+}
+
 /// Layers at the edges of the height cells of every level.
-pub fn edge_layers() -> Vec<i64> {
+pub fn edge_layers(edition: Edition) -> Vec<i64> {
+    let (least, greatest) = edition.layers();
     let mut list = Vec::new();
     around(&mut list, 0);
-    around(&mut list, LAYER.0 + 1);
-    around(&mut list, LAYER.1 - 1);
-    for thickness in [29_491_200, 3_686_400, 1_843_200, 122_880, 8_192, 4_096, 512, 64, 8, 1i64] {
+    around(&mut list, least + 1);
+    around(&mut list, greatest - 1);
+    for thickness in thicknesses(edition) {
         for count in [1, 2, 3, 7, 8, 14, 15, 16, 63, 64] {
             around(&mut list, thickness * count);
             around(&mut list, -thickness * count);
-            around(&mut list, LAYER.0 + thickness * count);
+            around(&mut list, least + thickness * count);
         }
     }
-    tidy(list, LAYER)
+    tidy(list, (least, greatest))
 }
 
 /// A layer: any, or near an edge of a height cell.
-pub fn layer(random: &mut Random) -> i64 {
+pub fn layer(random: &mut Random, edition: Edition) -> i64 {
+    let (least, greatest) = edition.layers();
     if random.one_in(2) {
-        return random.between(LAYER.0, LAYER.1);
+        return random.between(least, greatest);
     }
-    let thickness = random.pick(&[29_491_200, 3_686_400, 1_843_200, 122_880, 8_192, 4_096, 64]);
-    let edge = thickness * random.between(LAYER.0 / thickness, LAYER.1 / thickness);
-    (edge + random.between(-1, 1)).clamp(LAYER.0, LAYER.1)
+    let thickness = random.pick(&thicknesses(edition));
+    let edge = thickness * random.between(least / thickness, greatest / thickness);
+    (edge + random.between(-1, 1)).clamp(least, greatest)
 }
+
+/// An edition's number; now and then one that names none.
+pub fn edition(random: &mut Random) -> i64 {
+    match random.below(16) {
+        0 => random.pick(&ODD_EDITIONS),
+        1 => outside(random, (1, 2)),
+        _ => random.between(1, 2),
+    }
+}
+
+/// Numbers that name no edition, some of which would if they were cut to 8, 16
+/// or 32 bits.
+pub const ODD_EDITIONS: [i64; 14] = [
+    0,
+    -1,
+    -2,
+    3,
+    (1 << 8) + 1,
+    (1 << 16) + 2,
+    (1 << 31) + 1,
+    (1 << 32) + 1,
+    (1 << 32) + 2,
+    (-1 << 32) + 1,
+    i64::MIN,
+    i64::MIN + 1,
+    i64::MAX - 1,
+    i64::MAX,
+];
 
 /// Numbers around a range's ends and around the ends of machine numbers, some
 /// of which would fall into the range if they were cut to 32 bits.

@@ -1,11 +1,16 @@
-//! The library's calls, each with its refusals in the document's order ("Orders"). What a run must meet is derived from this one table.
+//! The library's calls, each with its refusals in the documents' order ("Orders"). What a run must meet is derived from this one table. A call that
+//! is told an edition stands here once for each, since each edition must meet everything.
+
+use hailgully_tests::space::Edition;
 
 #[derive(Clone, Copy, Debug, PartialEq, Eq)]
 pub enum Call {
     PlaneWrite,
     PlaneRead,
-    SpaceWrite,
-    SpaceRead,
+    SpaceWrite1,
+    SpaceRead1,
+    SpaceWrite2,
+    SpaceRead2,
     ReferenceWrite,
     ReferenceRead,
     Arcseconds,
@@ -21,17 +26,32 @@ pub type Named = (u32, u32);
 /// that cannot be read has no cell.
 type Ordered = (Named, &'static [Named]);
 
-const READER: &[Ordered] = &[((6, 1), &[]), ((7, 1), &[])];
-
 impl Call {
-    pub const ALL: [Call; 8] = [PlaneWrite, PlaneRead, SpaceWrite, SpaceRead, ReferenceWrite, ReferenceRead, Arcseconds, PlaneBox];
+    pub const ALL: [Call; 10] =
+        [PlaneWrite, PlaneRead, SpaceWrite1, SpaceRead1, SpaceWrite2, SpaceRead2, ReferenceWrite, ReferenceRead, Arcseconds, PlaneBox];
+
+    pub fn space_write(edition: Edition) -> Call {
+        match edition {
+            Edition::Ours => SpaceWrite1,
+            Edition::Theirs => SpaceWrite2,
+        }
+    }
+
+    pub fn space_read(edition: Edition) -> Call {
+        match edition {
+            Edition::Ours => SpaceRead1,
+            Edition::Theirs => SpaceRead2,
+        }
+    }
 
     pub fn name(self) -> &'static str {
         match self {
             PlaneWrite => "hg_plane_write",
             PlaneRead => "hg_plane_read",
-            SpaceWrite => "hg_space_write",
-            SpaceRead => "hg_space_read",
+            SpaceWrite1 => "hg_space_write, edition 1",
+            SpaceRead1 => "hg_space_read, edition 1",
+            SpaceWrite2 => "hg_space_write, edition 2",
+            SpaceRead2 => "hg_space_read, edition 2",
             ReferenceWrite => "hg_reference_write",
             ReferenceRead => "hg_reference_read",
             Arcseconds => "hg_arcseconds",
@@ -42,8 +62,9 @@ impl Call {
     fn ordered(self) -> &'static [Ordered] {
         match self {
             PlaneWrite => &[((1, 1), &[]), ((2, 1), &[]), ((3, 1), &[]), ((5, 1), &[(1, 1)])],
-            SpaceWrite => &[((1, 1), &[]), ((2, 1), &[]), ((3, 1), &[]), ((4, 1), &[]), ((5, 1), &[(1, 1)])],
-            PlaneRead | SpaceRead | PlaneBox => READER,
+            SpaceWrite1 | SpaceWrite2 => &[((1, 1), &[]), ((13, 1), &[]), ((2, 1), &[]), ((3, 1), &[]), ((4, 1), &[]), ((5, 1), &[(1, 1)])],
+            PlaneRead | PlaneBox => &[((6, 1), &[]), ((7, 1), &[])],
+            SpaceRead1 | SpaceRead2 => &[((13, 1), &[]), ((6, 1), &[]), ((7, 1), &[])],
             ReferenceWrite => &[
                 ((6, 1), &[]),
                 ((7, 1), &[]),

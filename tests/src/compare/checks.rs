@@ -9,7 +9,8 @@ use hailgully_raw::HgWritten;
 use hailgully_tests::cases::Random;
 use hailgully_tests::plane::{self, within, write::finest, PlaneCell, LATITUDE, LENGTHS, LONGITUDE};
 use hailgully_tests::refusals::Refusal;
-use hailgully_tests::{arcseconds, reference, slips, space};
+use hailgully_tests::space::{self, Edition};
+use hailgully_tests::{arcseconds, reference, slips};
 use std::fmt::Debug;
 
 pub struct Run {
@@ -71,11 +72,12 @@ impl Run {
         }
     }
 
-    /// Holds the library's answer against the oracle's.
+    /// Holds the library's answer against the oracle's: once in each case.
     fn answer<T, A>(&mut self, own: Result<T, Refusal>, got: A, told: impl FnOnce() -> String)
     where
         A: Record<T> + PartialEq + Debug,
     {
+        self.tally.cases += 1;
         let expected = A::of(own);
         if expected != got {
             self.tally.difference(|| format!("{}\n  oracle  {expected:?}\n  library {got:?}", told()));
@@ -83,14 +85,13 @@ impl Run {
     }
 
     /// Asks a reader of both.
-    fn reader<T, A>(&mut self, call: Call, code: &[u8], own: Result<T, Refusal>, library: fn(&mut [u8]) -> A) -> A
+    fn reader<T, A>(&mut self, code: &[u8], own: Result<T, Refusal>, library: impl FnOnce(&mut [u8]) -> A, told: impl Fn() -> String) -> A
     where
         A: Record<T> + PartialEq + Debug + Copy,
     {
-        let told = || format!("{} {}", call.name(), show(code));
         let mut held = self.hold(code);
         let got = library(held.lent.bytes());
-        self.kept(&held, told);
+        self.kept(&held, &told);
         self.answer(own, got, told);
         got
     }
@@ -135,44 +136,54 @@ impl Run {
 
     pub fn plane_read(&mut self, code: &[u8]) {
         let own = plane::read(code);
-        self.reader(Call::PlaneRead, code, own, library::plane_read);
+        self.reader(code, own, library::plane_read, || format!("hg_plane_read {}", show(code)));
         self.count(Call::PlaneRead, reader_bits(code, own.err()), own.err());
         if own.is_ok() {
             self.accepted(Call::PlaneRead, code);
         }
     }
 
-    pub fn space_write(&mut self, level: i64, (east, north): (i64, i64), layer: i64, length: usize, at: usize) {
+    pub fn space_write(&mut self, edition: i64, level: i64, (east, north): (i64, i64), layer: i64, length: usize, at: usize) {
         let own = self.writer(
             length,
-            |line| space::write(level, east, north, layer, line, at),
-            |line| library::space_write(level, east, north, layer, line, at),
-            || format!("hg_space_write level {level} longitude {east} latitude {north} layer {layer} line of {length} at {at}"),
+            |line| space::write(edition, level, east, north, layer, line, at),
+            |line| library::space_write(edition, level, east, north, layer, line, at),
+            || {
+                let asked = format!("hg_space_write edition {edition} level {level} longitude {east} latitude {north} layer {layer}");
+                format!("{asked} line of {length} at {at}")
+            },
         );
         let known = within(level, (1, 10));
         let room = length.saturating_sub(at);
-        let apply = bits(&[
-            !known,
-            !within(east, LONGITUDE),
-            !within(north, LATITUDE),
-            !within(layer, space::LAYER),
-            known && room < space::LENGTHS[(level - 1) as usize],
-        ]);
-        self.count(Call::SpaceWrite, apply, own.err());
-        if own.is_ok() {
-            self.accepted_space(Call::SpaceWrite, &finest(east, north)[..LENGTHS[level as usize - 1]], layer < 0);
+        for row in rows(edition) {
+            let apply = bits(&[
+                !known,
+                row as i64 != edition,
+                !within(east, LONGITUDE),
+                !within(north, LATITUDE),
+                !within(layer, row.layers()),
+                known && room < space::LENGTHS[(level - 1) as usize],
+            ]);
+            self.count(Call::space_write(row), apply, own.err());
+            if own.is_ok() {
+                self.accepted_space(Call::space_write(row), &finest(east, north)[..LENGTHS[level as usize - 1]], layer < 0);
+            }
         }
     }
 
-    pub fn space_read(&mut self, code: &[u8]) {
-        let own = space::read(code);
-        self.reader(Call::SpaceRead, code, own, library::space_read);
+    pub fn space_read(&mut self, edition: i64, code: &[u8]) {
+        let own = space::read(edition, code);
+        let library = |code: &mut [u8]| library::space_read(edition, code);
+        self.reader(code, own, library, || format!("hg_space_read edition {edition} {}", show(code)));
         let six = space::level_of(code.len()).is_none();
-        let seven = if six { space::first_bad(code).is_some() } else { own.is_err() };
-        self.count(Call::SpaceRead, bits(&[six, seven]), own.err());
-        if let Ok(cell) = own {
-            let (flat, length) = space::plane_part(code);
-            self.accepted_space(Call::SpaceRead, &flat[..length], cell.floor < 0);
+        for row in rows(edition) {
+            let other = row as i64 != edition;
+            let seven = if six || other { space::any_bad(row, code) } else { own.is_err() };
+            self.count(Call::space_read(row), bits(&[other, six, seven]), own.err());
+            if let Ok(cell) = own {
+                let (flat, length) = space::plane_part(code);
+                self.accepted_space(Call::space_read(row), &flat[..length], cell.floor < 0);
+            }
         }
     }
 
@@ -245,7 +256,7 @@ impl Run {
 
     pub fn plane_box(&mut self, code: &[u8]) {
         let own = arcseconds::plane_box(code);
-        let got = self.reader(Call::PlaneBox, code, own, library::plane_box);
+        let got = self.reader(code, own, library::plane_box, || format!("hg_plane_box {}", show(code)));
         self.count(Call::PlaneBox, reader_bits(code, own.err()), own.err());
         // "The box's west and south read back as the same units."
         if own.is_ok() {
@@ -254,6 +265,12 @@ impl Run {
             self.arcseconds(west, south);
         }
     }
+}
+
+/// The editions under which a case is counted: its own, or both where its number names none and 13 may hide what either has.
+fn rows(edition: i64) -> impl Iterator<Item = Edition> {
+    let neither = !within(edition, (1, 2));
+    Edition::BOTH.into_iter().filter(move |row| neither || *row as i64 == edition)
 }
 
 /// Whether 6 and whether 7 applies to a plane code, given its refusal.

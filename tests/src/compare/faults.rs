@@ -1,15 +1,17 @@
-//! Faults of a library, made between it and the checks: a length or a place reaches it cut to 8, 16 or 32 bits, or a lent byte comes back
-//! changed. Turned on by number like the oracle's slips, after which they are numbered; each must be found.
+//! Faults of a library, made between it and the checks: a length, a place or an edition reaches it cut to 8, 16 or 32 bits, or a lent byte comes
+//! back changed. Turned on by number like the oracle's slips, after which they are numbered; each must be found.
 
 use hailgully_tests::slips;
 
-/// The lengths and places that the calls take.
-const SIZES: [&str; 14] = [
+/// The lengths, places and editions that the calls take.
+const SIZES: [&str; 16] = [
     "hg_plane_write length",
     "hg_plane_write at",
     "hg_plane_read length",
+    "hg_space_write edition",
     "hg_space_write length",
     "hg_space_write at",
+    "hg_space_read edition",
     "hg_space_read length",
     "hg_reference_write base_length",
     "hg_reference_write target_length",
@@ -62,7 +64,7 @@ pub fn of_library(number: u32) -> bool {
 
 /// Only memory of 2^31 bytes and more shows it.
 pub fn huge(number: u32) -> bool {
-    matches!(fault(number), Some(Fault::Cut(_, 32)))
+    matches!(fault(number), Some(Fault::Cut(size, 32)) if !size.ends_with("edition"))
 }
 
 /// A slip or a fault in words.
@@ -81,6 +83,12 @@ pub fn cut(size: &str, number: usize) -> usize {
         Some(Fault::Cut(which, bits)) if which == size => number & ((1 << bits) - 1),
         _ => number,
     }
+}
+
+/// An edition as it reaches the library.
+#[inline(always)]
+pub fn cut_edition(which: &str, edition: i64) -> i64 {
+    cut(which, edition as usize) as i64
 }
 
 /// A lent line or code as it comes back.

@@ -1,6 +1,6 @@
 //! The library's calls on lent slices, and what each should return for the oracle's answer.
 
-use crate::faults::{change, cut};
+use crate::faults::{change, cut, cut_edition};
 use hailgully_raw::*;
 use hailgully_tests::plane::PlaneCell;
 use hailgully_tests::refusals::Refusal;
@@ -23,16 +23,17 @@ pub fn plane_read(code: &mut [u8]) -> HgPlaneCell {
     got
 }
 
-pub fn space_write(level: i64, east: i64, north: i64, layer: i64, line: &mut [u8], at: usize) -> HgWritten {
+pub fn space_write(edition: i64, level: i64, east: i64, north: i64, layer: i64, line: &mut [u8], at: usize) -> HgWritten {
+    let edition = cut_edition("hg_space_write edition", edition);
     let (length, at) = (cut("hg_space_write length", line.len()), cut("hg_space_write at", at));
-    let got = unsafe { hg_space_write(level, east, north, layer, line.as_mut_ptr(), length, at) };
+    let got = unsafe { hg_space_write(edition, level, east, north, layer, line.as_mut_ptr(), length, at) };
     change("hg_space_write line", line);
     got
 }
 
-pub fn space_read(code: &mut [u8]) -> HgSpaceCell {
-    let length = cut("hg_space_read length", code.len());
-    let got = unsafe { hg_space_read(code.as_mut_ptr(), length) };
+pub fn space_read(edition: i64, code: &mut [u8]) -> HgSpaceCell {
+    let (edition, length) = (cut_edition("hg_space_read edition", edition), cut("hg_space_read length", code.len()));
+    let got = unsafe { hg_space_read(edition, code.as_mut_ptr(), length) };
     change("hg_space_read code", code);
     got
 }

@@ -36,7 +36,7 @@ fn all_slips(families: &[Family], options: &Options) -> bool {
         tally
     };
     let without = ask(0);
-    println!("no slip: {} cases, {} differences", without.cases(), without.differences);
+    println!("no slip: {} cases, {} differences", without.cases, without.differences);
     if let Some(told) = without.told.first() {
         println!("DIFFERENCE: {told}");
         return false;
@@ -47,7 +47,7 @@ fn all_slips(families: &[Family], options: &Options) -> bool {
         let tally = ask(slip);
         let found = if tally.differences > 0 { "found within" } else { "NOT FOUND in" };
         unfound += u32::from(tally.differences == 0);
-        println!("slip {slip}: {found} {} cases: {}", tally.cases(), faults::words(slip));
+        println!("slip {slip}: {found} {} cases: {}", tally.cases, faults::words(slip));
     }
     println!("slips: {} in all, {unfound} not found", (1..=faults::count()).filter(asked).count());
     unfound == 0
@@ -58,7 +58,7 @@ fn one_seed(families: &[Family], options: &Options, seed: u64) -> Tally {
     let mut tally = Tally::default();
     let mut add = |pieces: Vec<work::Piece>| {
         tally.add(do_all(families, &pieces, options, seed, false));
-        tally.cases()
+        tally.cases
     };
     if slips::current() == 0 {
         add(work::own(families));
@@ -78,7 +78,7 @@ fn compare(families: &[Family], options: &Options) -> bool {
     for seed in options.seed..options.seed + options.seeds {
         let began = Instant::now();
         let tally = one_seed(families, options, seed);
-        let (cases, differences) = (tally.cases(), tally.differences);
+        let (cases, differences) = (tally.cases, tally.differences);
         println!("seed {seed}: {cases} cases, {differences} differences, {} s", began.elapsed().as_secs());
         whole.add(tally);
     }

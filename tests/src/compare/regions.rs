@@ -110,7 +110,7 @@ pub fn wanted(call: Call) -> Vec<(usize, String)> {
         let (region, level) = (slot / 10 % HALF, slot % 10 + 1);
         match call {
             Call::Arcseconds => false,
-            _ if slot >= SIGNS => matches!(call, Call::SpaceWrite | Call::SpaceRead),
+            _ if slot >= SIGNS => matches!(call, Call::SpaceWrite1 | Call::SpaceRead1 | Call::SpaceWrite2 | Call::SpaceRead2),
             Call::ReferenceWrite | Call::ReferenceRead => region <= WEST && level >= 5,
             _ => levels(region).contains(&level),
         }

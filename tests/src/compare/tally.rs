@@ -90,6 +90,7 @@ impl Counts {
 /// All that one thread, or the whole run, has met.
 #[derive(Default)]
 pub struct Tally {
+    pub cases: u64,
     pub calls: [Counts; Call::ALL.len()],
     /// Cases of each family, by its place in the list and its name.
     pub families: BTreeMap<(usize, &'static str), u64>,
@@ -102,10 +103,6 @@ pub struct Tally {
 const MOST_TOLD: usize = 10;
 
 impl Tally {
-    pub fn cases(&self) -> u64 {
-        self.calls.iter().map(|counts| counts.cases).sum()
-    }
-
     pub fn difference(&mut self, told: impl FnOnce() -> String) {
         self.differences += 1;
         if self.told.len() < MOST_TOLD {
@@ -114,6 +111,7 @@ impl Tally {
     }
 
     pub fn add(&mut self, other: Tally) {
+        self.cases += other.cases;
         for (all, part) in self.calls.iter_mut().zip(&other.calls) {
             all.add(part);
         }
@@ -143,7 +141,7 @@ impl Tally {
             println!("MISSING: {one}");
         }
         println!("own checks: {}", self.own_checks);
-        println!("compare: {} cases, {} differences, {} missing", self.cases(), self.differences, missing.len());
+        println!("compare: {} cases, {} differences, {} missing", self.cases, self.differences, missing.len());
         self.differences == 0 && missing.is_empty()
     }
 }

@@ -41,13 +41,13 @@ fn do_piece(family: &Family, (at, piece): Piece, seed: u64) -> Tally {
     match family.kind {
         Kind::Fixed(_, each) => each(&mut run, piece),
         Kind::Random(_, round) => {
-            while run.tally.cases() < PIECE {
+            while run.tally.cases < PIECE {
                 round(&mut run);
             }
         }
         Kind::Own(_, round) => (0..PIECE / 10).for_each(|_| round(&mut run)),
     }
-    let met = run.tally.cases() + run.tally.own_checks;
+    let met = run.tally.cases + run.tally.own_checks;
     run.tally.families.insert((at, family.name), met);
     run.tally
 }

@@ -77,11 +77,16 @@ pub fn level_of(length: usize) -> Option<u32> {
     Some(at as u32 + 1)
 }
 
-/// Refusals 1, 2, 3 in their order.
-pub fn refuse_position(level: i64, longitude: i64, latitude: i64) -> Result<(), Refusal> {
+/// Refusal 1.
+pub fn refuse_level(level: i64) -> Result<(), Refusal> {
     if !within(level, (1, 10)) {
         return Err(refusal(1));
     }
+    Ok(())
+}
+
+/// Refusals 2, 3 in their order.
+pub fn refuse_position(longitude: i64, latitude: i64) -> Result<(), Refusal> {
     if slips::on(slips::LATITUDE_FIRST) && !within(latitude, LATITUDE) {
         return Err(refusal(3));
     }
@@ -96,7 +101,8 @@ pub fn refuse_position(level: i64, longitude: i64, latitude: i64) -> Result<(), 
 
 /// Position writer: refusals 1, 2, 3, 5.
 pub fn write(level: i64, longitude: i64, latitude: i64, line: &mut [u8], at: usize) -> Result<usize, Refusal> {
-    refuse_position(level, longitude, latitude)?;
+    refuse_level(level)?;
+    refuse_position(longitude, latitude)?;
     let code = write::finest(longitude, latitude);
     put(&code[..LENGTHS[level as usize - 1]], line, at)
 }

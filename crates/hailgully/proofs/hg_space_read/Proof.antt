@@ -1,5 +1,6 @@
 -- `hailgully::hg_space_read` meets its contract. Assumes nothing.
 use mathlib.Core.Path.{_∙_, ap}
+use mir.Facts.{toZ-ofZ}
 use Rattle.hailgully.specs.Results.{spaceCellFor}
 use borrow.Author.Needs.{needs}
 use Rattle.hailgully.proofs.hg_space_read.Statement.{statement}
@@ -12,7 +13,9 @@ space-cell-of-requires : tie.Need-space-cell-of-requires
 space-cell-of-requires c κs = search needs
 
 returns : tie.Need-returns
-returns c = c .space-cell-of .ensures ∙ ap spaceCellFor (c .before .read .ensures)
+returns c =
+    let s = c .before .before .before in
+    c .space-cell-of .ensures ∙ ap spaceCellFor (rw (toZ-ofZ (s .fits .edition)) at (c .before .read .ensures))
 
 pub hg-space-read-spec : {M : Type 1} → statement M
 hg-space-read-spec = tie.close (tie.spec read-requires space-cell-of-requires returns)

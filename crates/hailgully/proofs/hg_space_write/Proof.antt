@@ -21,7 +21,7 @@ same-length c = search needs
 returns : tie.Need-returns
 returns c =
     let s = c .before .before .before .before .before .before in
-    let e = rw (toZ-ofZ (s .fits .level), toZ-ofZ (s .fits .longitude), toZ-ofZ (s .fits .latitude), toZ-ofZ (s .fits .layer)) at (c .before .before .before .write .ensures) in
+    let e = rw (toZ-ofZ (s .fits .edition), toZ-ofZ (s .fits .level), toZ-ofZ (s .fits .longitude), toZ-ofZ (s .fits .latitude), toZ-ofZ (s .fits .layer)) at (c .before .before .before .write .ensures) in
     (c .written-of .ensures ∙ ap (λ (x : Answer ℕ × List ℕ). writtenOf (x .0)) e, ap (λ (x : Answer ℕ × List ℕ). x .1) e)
 
 pub hg-space-write-spec : {M : Type 1} → statement M

@@ -1,13 +1,12 @@
 -- `layers::put_first` meets its contract. Assumes nothing.
+use mathlib.Core.Path.{refl}
+use Prim.Native.Nat.{_/_, _%_}
 use native.Mathlib.Omega.{arith}
 use lib.ListN.{length-set}
-use Rattle.layers.proofs.Writing.{first-below, first-stored}
+use Rattle.grid.proofs.Characters.{char-decimal}
 use borrow.Author.Needs.{needs}
 use Rattle.layers.proofs.put_first.Statement.{statement}
 use Rattle.layers.proofs.put_first.Tie as tie
-
-first-number-requires : tie.Need-first-number-requires
-first-number-requires c κs = search needs
 
 sign-of-requires : tie.Need-sign-of-requires
 sign-of-requires c κs = search needs
@@ -15,17 +14,20 @@ sign-of-requires c κs = search needs
 slice-write-line : tie.Need-slice-write-line
 slice-write-line c = search needs
 
-character-requires : tie.Need-character-requires
-character-requires c κs =
-    let s = c .before .before .before in
-    let d = first-below _ (s .args .rise) (s .pre .0) (s .pre .1) in
-    omega (arith, c .before .first-number .ensures)
+add-line : tie.Need-add-line
+add-line c = search needs
+
+cast-line : tie.Need-cast-line
+cast-line c = search needs
 
 slice-write-line-2 : tie.Need-slice-write-line-2
-slice-write-line-2 c = simp length-set (omega (arith, c .before .before .before .before .pre .2))
+slice-write-line-2 c = simp length-set (omega (arith, c .before .before .pre .1))
 
-character-requires-2 : tie.Need-character-requires-2
-character-requires-2 c κs = search needs
+add-line-2 : tie.Need-add-line-2
+add-line-2 c = search needs
+
+cast-line-2 : tie.Need-cast-line-2
+cast-line-2 c = search needs
 
 slice-write-line-3 : tie.Need-slice-write-line-3
 slice-write-line-3 c = search needs
@@ -35,19 +37,21 @@ same-length c = search needs
 
 returns : tie.Need-returns
 returns c =
-    let s = c .before .before .before .before .before in
-    first-stored _ (s .args .above) (s .args .rise) (s .args .line .now) (s .pre .0) (s .pre .1) (c .before .before .before .first-number .ensures) (c .before .before .sign-of .ensures) (c .before .character .ensures) (c .character2 .ensures)
+    let s = c .before .before in
+    let h = s .pre .0 in
+    rw (c .sign-of .ensures, ← char-decimal (s .args .n / 10) (omega (arith, h)), ← char-decimal (s .args .n % 10) (omega arith)) refl
 
 pub put-first-spec : {M : Type 1} → statement M
 put-first-spec =
     tie.close
     (tie.spec
-    first-number-requires
     sign-of-requires
     slice-write-line
-    character-requires
+    add-line
+    cast-line
     slice-write-line-2
-    character-requires-2
+    add-line-2
+    cast-line-2
     slice-write-line-3
     same-length
     returns)

@@ -3,13 +3,13 @@
 use mathlib.Core.Path.{_≡_}
 use mathlib.Core.Bool.{Bool, true, false, cond, _&&_}
 use mathlib.Core.List.{List, [], _∷_, map}
-use Prim.Native.Nat.{ℕ, _+_, _*_, _/_, _%_, _≤_, _<_}
+use Prim.Native.Nat.{ℕ, zero, suc, _+_, _*_, _/_, _%_, _≤_, _<_}
 use lib.Dec.{ltb, leb, eqb}
 use lib.IntN.{ℤ}
 use lib.ListN.{length, getD, take, drop}
 use Rattle.grid.specs.Characters.{charOf, digitOf}
 use Rattle.grid.specs.Tree.{Read, ok, bad, next, code, follow}
-use Rattle.grid.specs.Layers.{product, Stack, all, part, allChild, layers, floorOf}
+use Rattle.grid.specs.Layers.{product, sign, Stack, all, part, allChild, layers, floorOf}
 use Rattle.layers.specs.declared.Height.{Height}
 use Rattle.layers.specs.Heights.{heightLevels, heightRead}
 
@@ -48,17 +48,22 @@ pub record HeightWritable (rs : List ℕ) (level rise : ℕ) (line : List ℕ) :
   pub rise-in : rise < product rs
   pub room : 2 + level ≤ length line
 
--- the number of level 1: which part of a side holds the rise
-unfoldable pub firstNumber : List ℕ → ℕ → ℕ
-firstNumber rs n = n / thicknessAt rs 1
+-- how many cells of the m levels after level k lie below a rise on its side of the ground
+abbrev pub cellsAfter : List ℕ → ℕ → ℕ → ℕ → List ℕ
+cellsAfter rs n k zero = []
+cellsAfter rs n k (suc m) = (n / thicknessAt rs (k + 1)) ∷ cellsAfter rs n (suc k) m
 
--- the digit of level k + 1, one after the first: which part of the level before holds the rise
-unfoldable pub digitAt : List ℕ → ℕ → ℕ → ℕ
-digitAt rs k n = n / thicknessAt rs (k + 1) % getD rs k 0
+-- of all the levels
+unfoldable pub cellsBelow : List ℕ → ℕ → List ℕ
+cellsBelow rs n = cellsAfter rs n 0 10
 
--- its character in a code of a level; none where the code ends before it
-unfoldable pub heightCharsAt : List ℕ → ℕ → ℕ → ℕ → List ℕ
-heightCharsAt rs level k n = cond (ltb k level) (charOf (digitAt rs k n) ∷ []) []
+-- level 1, n of whose cells lie below the layer: the sign and two decimal digits
+abbrev pub firstHeight : Bool → ℕ → List ℕ
+firstHeight above n = charOf (sign above) ∷ charOf (n / 10) ∷ charOf (n % 10) ∷ []
+
+-- level k + 1, a later one, n of whose cells lie below the layer: its character in a code of a level; none where the code ends before it
+unfoldable pub laterHeightAt : List ℕ → ℕ → ℕ → ℕ → List ℕ
+laterHeightAt rs level k n = cond (ltb k level) (charOf (n % getD rs k 0) ∷ []) []
 
 -- ---- reading
 

@@ -1,6 +1,6 @@
 -- `plane::ask_level` meets its contract. Assumes nothing.
 use mathlib.Core.Path.{_≡_, _∙_, ap}
-use lib.IntN.{pos, natAbs}
+use lib.IntN.{pos}
 use Prim.Native.Nat.{ℕ, _≤_}
 use native.Mathlib.Omega.{arith}
 use mir.Syntax.{w64}

@@ -6,7 +6,7 @@ use native.Mathlib.Omega.{arith}
 use lib.ListN.{length}
 use lib.Seq.{length-take-le}
 use Rattle.grid.specs.Characters.{digitOf}
-use Rattle.grid.specs.Layers.{radices}
+use Rattle.layers.specs.inner.Editions.{radicesOf}
 use Rattle.layers.specs.Heights.{heightAnswer}
 use borrow.Author.Needs.{needs}
 use Rattle.space.proofs.height_of.Statement.{statement}
@@ -46,7 +46,7 @@ read-requires c κs =
 returns : tie.Need-returns
 returns c =
     let s = c .before .before .before .before .before .before in
-    c .read .ensures ∙ ap (λ (l : List ℕ). heightAnswer radices (s .args .level) (map digitOf l)) (c .before .before .before .height-part .ensures)
+    c .read .ensures ∙ ap (λ (l : List ℕ). heightAnswer (radicesOf (s .args .second)) (s .args .level) (map digitOf l)) (c .before .before .before .height-part .ensures)
 
 pub height-of-spec : {M : Type 1} → statement M
 height-of-spec =

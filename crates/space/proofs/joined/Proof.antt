@@ -1,5 +1,7 @@
 -- `space::joined` meets its contract. Assumes nothing.
 use mathlib.Core.Path.{refl, _∙_, subst}
+use Rattle.grid.specs.Layers.{product}
+use Rattle.layers.specs.inner.Editions.{radicesOf}
 use Rattle.space.specs.inner.Parts.{Lying}
 use borrow.Author.Needs.{needs}
 use Rattle.space.proofs.joined.Statement.{statement}
@@ -9,7 +11,7 @@ enum-known-h : tie.Need-enum-known-h
 enum-known-h c = search needs
 
 over-layers-requires : tie.Need-over-layers-requires
-over-layers-requires c κs = subst Lying (c .before .h .given .1) (c .before .before .before .pre)
+over-layers-requires c κs = subst (Lying (product (radicesOf (c .before .before .before .args .second)))) (c .before .h .given .1) (c .before .before .before .pre)
 
 enum-known-h-2 : tie.Need-enum-known-h-2
 enum-known-h-2 c = search needs
@@ -21,7 +23,7 @@ returns : tie.Need-returns
 returns c = c .over-layers .ensures ∙ rw (c .before .before .h .given .1) refl
 
 returns-2 : tie.Need-returns-2
-returns-2 c = c .over-bad .ensures ∙ rw (c .before .before .h2 .given .1) refl
+returns-2 c = c .over-bad .ensures (product (radicesOf (c .before .before .before .before .args .second))) ∙ rw (c .before .before .h2 .given .1) refl
 
 pub joined-spec : {M : Type 1} → statement M
 joined-spec =

@@ -15,7 +15,7 @@ refuse-requires : tie.Need-refuse-requires
 refuse-requires c κs = search needs
 
 returns : tie.Need-returns
-returns c = laid-past-by (c .before .before .before .before .args .line .now) (c .before .before .before .before .args .at) _ (c .refuse .ensures) refl (space-length (c .before .before .before .before .args .l) (c .before .before .before .before .args .p) (c .before .before .before .before .args .rise) (c .before .before .before .before .args .above) (c .before .before .before .before .pre) ∙ sym (c .before .before .length-of .ensures)) (c .before .if1 .taken)
+returns c = laid-past-by (c .before .before .before .before .args .line .now) (c .before .before .before .before .args .at) _ (c .refuse .ensures) refl (space-length (c .before .before .before .before .args .second) (c .before .before .before .before .args .l) (c .before .before .before .before .args .p) (c .before .before .before .before .args .rise) (c .before .before .before .before .args .above) (c .before .before .before .before .pre) ∙ sym (c .before .before .length-of .ensures)) (c .before .if1 .taken)
 
 sub-if2 : tie.Need-sub-if2
 sub-if2 c = search needs
@@ -24,7 +24,7 @@ refuse-requires-2 : tie.Need-refuse-requires-2
 refuse-requires-2 c κs = search needs
 
 returns-2 : tie.Need-returns-2
-returns-2 c = laid-short-by (c .before .before .before .before .before .args .line .now) (c .before .before .before .before .before .args .at) _ (c .refuse2 .ensures) refl (space-length (c .before .before .before .before .before .args .l) (c .before .before .before .before .before .args .p) (c .before .before .before .before .before .args .rise) (c .before .before .before .before .before .args .above) (c .before .before .before .before .before .pre) ∙ sym (c .before .before .before .length-of .ensures)) (c .before .before .if1 .left) (c .before .if2 .taken)
+returns-2 c = laid-short-by (c .before .before .before .before .before .args .line .now) (c .before .before .before .before .before .args .at) _ (c .refuse2 .ensures) refl (space-length (c .before .before .before .before .before .args .second) (c .before .before .before .before .before .args .l) (c .before .before .before .before .before .args .p) (c .before .before .before .before .before .args .rise) (c .before .before .before .before .before .args .above) (c .before .before .before .before .before .pre) ∙ sym (c .before .before .before .length-of .ensures)) (c .before .before .if1 .left) (c .before .if2 .taken)
 
 sub-put : tie.Need-sub-put
 sub-put c = search needs
@@ -47,7 +47,7 @@ same-length c = search needs
 returns-3 : tie.Need-returns-3
 returns-3 c =
     let s = c .before .before .before .before .before .before .before .before in
-    laid-lent (s .args .line .now) (s .args .at) _ refl (space-length (s .args .l) (s .args .p) (s .args .rise) (s .args .above) (s .pre) ∙ sym (c .before .before .before .before .before .before .length-of .ensures)) (c .before .before .before .before .before .if1 .left) (c .before .before .before .before .if2 .left) (c .before .before .put .ensures)
+    laid-lent (s .args .line .now) (s .args .at) _ refl (space-length (s .args .second) (s .args .l) (s .args .p) (s .args .rise) (s .args .above) (s .pre) ∙ sym (c .before .before .before .before .before .before .length-of .ensures)) (c .before .before .before .before .before .if1 .left) (c .before .before .before .before .if2 .left) (c .before .before .put .ensures)
 
 pub lay-spec : {M : Type 1} → statement M
 lay-spec =

@@ -1,5 +1,10 @@
 -- `space::over_bad` meets its contract. Assumes nothing.
-use mathlib.Core.Path.{refl}
+use mathlib.Core.Path.{refl, sym, _∙_, ap}
+use Prim.Native.Nat.{ℕ}
+use Rattle.grid.specs.declared.PlaneRead.{PlaneRead}
+use Rattle.grid.specs.Answers.{refused, planeRead}
+use Rattle.grid.specs.inner.Roads.{atPlace}
+use Rattle.space.specs.inner.Parts.{joinedAnswer}
 use borrow.Author.Needs.{needs}
 use Rattle.space.proofs.over_bad.Statement.{statement}
 use Rattle.space.proofs.over_bad.Tie as tie
@@ -27,11 +32,15 @@ earlier-requires c κs = search needs
 
 returns : tie.Need-returns
 returns c =
+    λ top.
     let h = c .before .before .before in
-    rw (h .at-place .ensures, h .before .height-place .ensures, c .before .a .given .1) refl
+    let q = h .before .before .args .q in
+    ap refused (h .at-place .ensures ∙ ap (λ (p : ℕ). atPlace p q) (h .before .height-place .ensures))
+    ∙ ap (λ (a : PlaneRead). joinedAnswer top (planeRead a) (refused q)) (sym (c .before .a .given .1))
 
 returns-2 : tie.Need-returns-2
 returns-2 c =
+    λ top.
     let h = c .before .before .before .before .before .before in
     rw (
       c .earlier .ensures,

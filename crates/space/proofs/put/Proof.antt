@@ -45,7 +45,7 @@ same-length c = search needs
 returns : tie.Need-returns
 returns c =
     let s = c .before .before .before .before .before .before .before .before .before .before .before .before .before .before .before .before .before in
-    put-code (s .args .l) (s .args .p) (s .args .above) (s .args .rise) (replicate 20 0) (replicate 12 0) (s .args .line .now) (s .pre .0) refl refl (s .pre .1)
+    put-code (s .args .second) (s .args .l) (s .args .p) (s .args .above) (s .args .rise) (replicate 20 0) (replicate 12 0) (s .args .line .now) (s .pre .0) refl refl (s .pre .1)
     (c .before .before .before .before .before .before .before .before .before .before .before .before .before .before .put .ensures)
     (c .before .before .before .before .before .before .before .before .before .before .lay-plane .ensures)
     (c .before .before .before .before .before .before .put2 .ensures)

@@ -1,53 +1,42 @@
 -- `space::read` meets its contract. Assumes nothing.
-use mathlib.Core.Path.{_∙_, ap}
-use native.Mathlib.Omega.{arith}
-use lib.ListN.{length}
-use Rattle.grid.specs.Answers as answers
-use Rattle.space.specs.inner.Asking.{SpaceRoom}
-use Rattle.space.proofs.Reading.{Leveled, leveled, read-none, read-joined, lying}
+use mathlib.Core.Path.{_≡_, sym, _∙_, ap}
+use mathlib.Core.List.{List}
+use Prim.Native.Nat.{ℕ}
+use mir.Facts.{toZ-ofZ}
+use Rattle.grid.specs.Layers.{editionIn}
+use Rattle.grid.specs.Space.{spaceCellOf}
+use Rattle.grid.proofs.Answers.{then-accepted, then-refused}
+use Rattle.layers.specs.inner.Editions.{editionAsked}
 use borrow.Author.Needs.{needs}
 use Rattle.space.proofs.read.Statement.{statement}
 use Rattle.space.proofs.read.Tie as tie
 
--- the level that was found is the code's
-known : (c : tie.Else1) → Leveled (length (c .before .before .before .args .code .now)) (c .before .level-of .result)
-known c = leveled _ (c .before .level-of .ensures) (c .if1 .left)
+asked : (c : tie.After-ask-edition) → editionAsked (c .ask-edition .result) ≡ editionIn (c .before .before .args .edition)
+asked c = rw (toZ-ofZ (c .before .before .fits .edition)) at (c .ask-edition .ensures)
 
--- and the code has its places
-room : (c : tie.Else1) → SpaceRoom (c .before .level-of .result) (c .before .before .before .args .code .now)
-room c = let t = known c in record { level-low = t .low; level-high = t .high; room = omega (arith, t .long) }
+ask-edition-requires : tie.Need-ask-edition-requires
+ask-edition-requires c κs = search needs
 
-level-of-requires : tie.Need-level-of-requires
-level-of-requires c κs = search needs
+enum-known-second : tie.Need-enum-known-second
+enum-known-second c = search needs
 
-refuse-requires : tie.Need-refuse-requires
-refuse-requires c κs = search needs
+read-in-requires : tie.Need-read-in-requires
+read-in-requires c κs = search needs
+
+enum-known-r : tie.Need-enum-known-r
+enum-known-r c = search needs
 
 returns : tie.Need-returns
-returns c = ap answers.refused (c .refuse .ensures) ∙ read-none (c .before .before .before .before .args .code .now) (c .before .before .level-of .ensures) (c .before .if1 .taken)
-
-plane-of-requires : tie.Need-plane-of-requires
-plane-of-requires c κs = room c
-
-height-of-requires : tie.Need-height-of-requires
-height-of-requires c κs = room (c .before)
-
-joined-requires : tie.Need-joined-requires
-joined-requires c κs = lying (c .before .before .before .level-of .result) _ (c .height-of .result) (c .height-of .ensures)
+returns c =
+    let a = c .before .before .before .before in
+    let w = a .before .before .args .code .now in
+    c .read-in .ensures ∙ then-accepted (λ (rs : List ℕ). spaceCellOf rs w) (sym (asked a) ∙ ap editionAsked (c .before .before .second .given .1))
 
 returns-2 : tie.Need-returns-2
 returns-2 c =
-    let s = c .before .before .before .before .before .before in
-    read-joined (s .args .code .now) (c .before .before .before .before .level-of .result) (known (c .before .before .before)) (c .joined .ensures) (c .before .before .plane-of .ensures) (c .before .height-of .ensures)
+    let a = c .before .before .before in
+    then-refused (λ (rs : List ℕ). spaceCellOf rs (a .before .before .args .code .now)) (sym (asked a) ∙ ap editionAsked (c .before .r .given .1))
 
 pub read-spec : {M : Type 1} → statement M
 read-spec =
-    tie.close
-    (tie.spec
-    level-of-requires
-    refuse-requires
-    returns
-    plane-of-requires
-    height-of-requires
-    joined-requires
-    returns-2)
+    tie.close (tie.spec ask-edition-requires enum-known-second read-in-requires enum-known-r returns returns-2)

@@ -23,8 +23,8 @@ ask-level-requires c κs = search needs
 enum-known-l : tie.Need-enum-known-l
 enum-known-l c = search needs
 
-write-at-requires : tie.Need-write-at-requires
-write-at-requires c κs = let a = c .before .before .before .before in level-known (a .before .before .args .level) (level-at (asked a) (c .before .before .l .given .1))
+write-in-requires : tie.Need-write-in-requires
+write-in-requires c κs = let a = c .before .before .before .before in level-known (a .before .before .args .level) (level-at (asked a) (c .before .before .l .given .1))
 
 enum-known-r : tie.Need-enum-known-r
 enum-known-r c = search needs
@@ -36,18 +36,18 @@ returns : tie.Need-returns
 returns c =
     let a = c .before .before .before .before .before .before .before in
     let s = a .before .before in
-    rw (toZ-ofZ (s .fits .longitude), toZ-ofZ (s .fits .latitude), toZ-ofZ (s .fits .layer)) at (c .before .before .write-at .ensures)
+    rw (toZ-ofZ (s .fits .edition), toZ-ofZ (s .fits .longitude), toZ-ofZ (s .fits .latitude), toZ-ofZ (s .fits .layer)) at (c .before .before .write-in .ensures)
     ∙ ap (λ (t : Answer (List ℕ)). laid t (s .args .line .now) (s .args .at))
-    (text-level (s .args .level) (s .args .longitude) (s .args .latitude) (s .args .layer) (level-at (asked a) (c .before .before .before .before .before .l .given .1)))
+    (text-level (s .args .edition) (s .args .level) (s .args .longitude) (s .args .latitude) (s .args .layer) (level-at (asked a) (c .before .before .before .before .before .l .given .1)))
 
 returns-2 : tie.Need-returns-2
 returns-2 c =
     let a = c .before .before .before in
     let s = a .before .before in
     laid-refused (s .args .line .now) (s .args .at)
-    (text-refused (s .args .level) (s .args .longitude) (s .args .latitude) (s .args .layer) (level-refused (asked a) (c .before .r .given .1)))
+    (text-refused (s .args .edition) (s .args .level) (s .args .longitude) (s .args .latitude) (s .args .layer) (level-refused (asked a) (c .before .r .given .1)))
 
 pub write-spec : {M : Type 1} → statement M
 write-spec =
     tie.close
-    (tie.spec ask-level-requires enum-known-l write-at-requires enum-known-r same-length returns returns-2)
+    (tie.spec ask-level-requires enum-known-l write-in-requires enum-known-r same-length returns returns-2)

@@ -11,6 +11,7 @@ use Rattle.grid.proofs.Laying.{laid-refused}
 use Rattle.plane.specs.Text.{squareIn}
 use Rattle.plane.specs.inner.Asking.{positionAsked}
 use Rattle.plane.proofs.Asking.{position-at, position-refused, position-fits}
+use Rattle.layers.specs.inner.Editions.{radicesOf}
 use Rattle.space.specs.Space.{layeredText}
 use borrow.Author.Needs.{needs}
 use Rattle.space.proofs.write_at.Statement.{statement}
@@ -44,14 +45,14 @@ returns c =
     let s = a .before .before in
     rw (toZ-ofZ (s .fits .layer)) at (c .before .before .write-over .ensures)
     ∙ ap (λ (t : Answer (List ℕ)). laid t (s .args .line .now) (s .args .at))
-    (then-accepted (λ (q : Square). layeredText (s .args .l) q (s .args .layer)) (position-at (asked a) (c .before .before .before .before .before .p .given .1)))
+    (then-accepted (λ (q : Square). layeredText (radicesOf (s .args .second)) (s .args .l) q (s .args .layer)) (position-at (asked a) (c .before .before .before .before .before .p .given .1)))
 
 returns-2 : tie.Need-returns-2
 returns-2 c =
     let a = c .before .before .before in
     let s = a .before .before in
     laid-refused (s .args .line .now) (s .args .at)
-    (sym (then-refused (λ (q : Square). layeredText (s .args .l) q (s .args .layer)) (position-refused (asked a) (c .before .r .given .1))))
+    (sym (then-refused (λ (q : Square). layeredText (radicesOf (s .args .second)) (s .args .l) q (s .args .layer)) (position-refused (asked a) (c .before .r .given .1))))
 
 pub write-at-spec : {M : Type 1} → statement M
 write-at-spec =

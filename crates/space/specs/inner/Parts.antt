@@ -13,7 +13,7 @@ use Rattle.grid.specs.Splits.{splits}
 use Rattle.grid.specs.Codes.{placeIn}
 use Rattle.grid.specs.Answers.{Answer, accepted, refused}
 use Rattle.grid.specs.inner.Roads.{atPlace}
-use Rattle.grid.specs.Layers.{radices, product, Stack, floorOf, thicknessOf}
+use Rattle.grid.specs.Layers.{Stack, floorOf, thicknessOf}
 use Rattle.grid.specs.Space.{spaceLengths}
 use Rattle.plane.specs.inner.Lengths.{orZero}
 use Rattle.layers.specs.declared.LayersRead.{LayersRead}
@@ -71,15 +71,15 @@ ofPlane r = atPlace (planePlace (r .place)) r
 abbrev pub ofHeight : Refusal → Refusal
 ofHeight q = atPlace (heightPlace (q .place)) q
 
--- the answers of the plane reader and of the height reader together: the cell with its layers, or the first bad character of either
-abbrev pub joinedAnswer : Answer Cell → Answer Stack → Answer SpaceCell
-joinedAnswer (accepted c) (accepted m) =
-    accepted (record { cell = c; floor = floorOf (product radices) m; thickness = thicknessOf (product radices) m })
-joinedAnswer (accepted c) (refused q) = refused (ofHeight q)
-joinedAnswer (refused r) (accepted m) = refused (ofPlane r)
-joinedAnswer (refused r) (refused q) = refused (earlier (ofPlane r) (ofHeight q))
+-- the answers of the plane reader and of the height reader together, where `top` layers lie above ground: the cell with its layers, or the first
+-- bad character of either
+abbrev pub joinedAnswer : ℕ → Answer Cell → Answer Stack → Answer SpaceCell
+joinedAnswer top (accepted c) (accepted m) = accepted (record { cell = c; floor = floorOf top m; thickness = thicknessOf top m })
+joinedAnswer top (accepted c) (refused q) = refused (ofHeight q)
+joinedAnswer top (refused r) (accepted m) = refused (ofPlane r)
+joinedAnswer top (refused r) (refused q) = refused (earlier (ofPlane r) (ofHeight q))
 
--- layers that were read lie in their range
-abbrev pub Lying : LayersRead → Type 0
-Lying (layers.Found above low thick) = low < product radices
-Lying (layers.Refused q) = Unit {0}
+-- layers that were read lie in their range, of which there are `top` on either side of the ground
+abbrev pub Lying : ℕ → LayersRead → Type 0
+Lying top (layers.Found above low thick) = low < top
+Lying top (layers.Refused q) = Unit {0}

@@ -1,16 +1,17 @@
-//! Lengths and places that would be taken for others if they were cut to fewer bits, or took a sign: for every call, around 2^7 to 2^32.
+//! Lengths, places and editions that would be taken for others if they were cut to fewer bits, or took a sign: for every call, around 2^7 to 2^32.
 
 use super::{fixed, Family};
 use crate::checks::Run;
 use hailgully_tests::cases;
 use hailgully_tests::plane::{write, LENGTHS};
-use hailgully_tests::space;
+use hailgully_tests::space::{self, Edition};
 
 /// Memory of 2^31 bytes and more is lent only where it may be: untouched pages cost a machine nothing, and an emulator gigabytes.
 pub fn families(huge: bool) -> Vec<Family> {
     let mut families = vec![
         fixed("long: lines", 16 * SMALL.len() as u64, |run, piece| lines(run, around(&SMALL, piece))),
         fixed("long: codes", 16 * SMALL.len() as u64, |run, piece| codes(run, around(&SMALL, piece))),
+        fixed("long: editions", 16, editions),
     ];
     if huge {
         families.push(fixed("long: huge lines", HUGE.len() as u64, |run, piece| lines(run, around(&HUGE, piece))));
@@ -48,7 +49,11 @@ fn lines(run: &mut Run, (near, (longitude, latitude)): Around) {
         rooms(near, need, |length, at| run.plane_write(level, longitude, latitude, length, at));
     }
     for (level, need) in (1..).zip(space::LENGTHS) {
-        rooms(near, need, |length, at| run.space_write(level, (longitude, latitude), -7, length, at));
+        rooms(near, need, |length, at| {
+            for edition in [1, 2] {
+                run.space_write(edition, level, (longitude, latitude), -7, length, at);
+            }
+        });
     }
     let (base, target) = (write::finest(5, 5), write::finest(5, -3));
     for need in &LENGTHS[4..] {
@@ -56,6 +61,17 @@ fn lines(run: &mut Run, (near, (longitude, latitude)): Around) {
         let code = [base, b"-1A"].concat();
         rooms(near, need + 3, |length, at| run.reference_write(base, target, length, at));
         rooms(near, *need, |length, at| run.reference_read(&code, length, at));
+    }
+}
+
+fn editions(run: &mut Run, piece: u64) {
+    let square = cases::places_of_each_kind()[piece as usize];
+    let tall = space::finest(Edition::Ours, square, -7);
+    for edition in cases::extremes((1, 2)).into_iter().chain(cases::ODD_EDITIONS) {
+        for (level, length) in (1..).zip(space::LENGTHS) {
+            run.space_write(edition, level, square, -7, 32, 0);
+            run.space_read(edition, &tall[..length]);
+        }
     }
 }
 
@@ -71,7 +87,7 @@ fn longer(code: &[u8], by: usize, fill: u8) -> Vec<u8> {
 
 fn codes(run: &mut Run, (near, square): Around) {
     let times = if near <= 1 << 16 { 3 } else { 1 };
-    let (flat, tall) = (write::finest(square.0, square.1), space::finest(square, -7));
+    let (flat, tall) = (write::finest(square.0, square.1), space::finest(Edition::Ours, square, -7));
     let base = write::finest(5, 5);
     for by in (1..=times).map(|times| times * near) {
         let fill = b"0-"[by / near % 2];
@@ -79,7 +95,9 @@ fn codes(run: &mut Run, (near, square): Around) {
             let long = longer(&flat[..length], by, fill);
             run.plane_read(&long);
             run.plane_box(&long);
-            run.space_read(&longer(&tall[..tall_length], by, fill));
+            let long = longer(&tall[..tall_length], by, fill);
+            run.space_read(1, &long);
+            run.space_read(2, &long);
             run.reference_read(&longer(&[&base[..length], b"-1A"].concat(), by, fill), 24, 0);
             let long = longer(&base[..length], by, fill);
             run.reference_write(&long, &base[..11], 24, 0);

@@ -1,4 +1,4 @@
-//! Before the quick oracle is trusted: it against the lists.
+//! Before the quick oracle is trusted: it against the lists, and edition 2 against the layer's binary digits written out.
 
 use super::{Family, Kind};
 use crate::checks::{show, Run};
@@ -6,13 +6,14 @@ use hailgully_tests::cases;
 use hailgully_tests::layers::height_cell;
 use hailgully_tests::plane::{self, listing, LENGTHS, POLAR_INDEX};
 use hailgully_tests::reference::{self, OFFSETS};
-use hailgully_tests::space;
+use hailgully_tests::space::{self, Edition};
 
 pub fn families() -> Vec<Family> {
     let own = |name, rounds, round| Family { name, kind: Kind::Own(rounds, round) };
     vec![
         own("own check: plane codes against the lists", 200_000, planes),
-        own("own check: space codes against the lists", 20_000, spaces),
+        own("own check: space codes against the lists", 20_000, |run| spaces(run, Edition::Ours)),
+        own("own check: space codes of edition 2 against binary digits", 20_000, |run| spaces(run, Edition::Theirs)),
         own("own check: reference codes against steps", 40_000, steps),
     ]
 }
@@ -51,15 +52,15 @@ fn same_reading(run: &mut Run, code: &[u8], cell: Option<plane::PlaneCell>) {
     });
 }
 
-/// The space code put together from the listed plane code and the listed
+/// The space code put together from the listed plane code and the plain
 /// height characters: "N or S, the sign, then for each level its plane
 /// characters followed by its height character or characters".
-fn spaces(run: &mut Run) {
+fn spaces(run: &mut Run, edition: Edition) {
     let (longitude, latitude) = cases::anywhere(&mut run.random);
-    let layer = cases::layer(&mut run.random);
+    let layer = cases::layer(&mut run.random, edition);
     let level = run.random.between(1, 10) as usize;
     let (flat, cell) = listing::code(level, longitude, latitude);
-    let high = height_cell(level, layer);
+    let high = height_cell(edition, level, layer);
     let heights = high.text.as_bytes();
     let mut code = vec![flat[0], heights[0]];
     let (mut seen, mut used) = (1, 1);
@@ -70,13 +71,13 @@ fn spaces(run: &mut Run) {
         (seen, used) = (length, next);
     }
     let mut line = [0; 32];
-    let written = space::write(level as i64, longitude, latitude, layer, &mut line, 0);
+    let written = space::write(edition as i64, level as i64, longitude, latitude, layer, &mut line, 0);
     let well = written == Ok(code.len()) && line[..code.len()] == code;
     own(run, well, || {
         let (one, other) = (show(&line), show(&code));
-        format!("level {level} {longitude} {latitude} {layer}: {one}, by the lists {other}")
+        format!("{edition:?} level {level} {longitude} {latitude} {layer}: {one}, plainly {other}")
     });
-    let read = space::read(&code);
+    let read = space::read(edition as i64, &code);
     let well =
         read.is_ok_and(|read| read.plane == cell && i64::from(read.floor) == high.floor && i64::from(read.thickness) == high.thickness);
     own(run, well, || format!("{}: {read:?}", show(&code)));

@@ -6,7 +6,7 @@ use crate::checks::Run;
 use hailgully_tests::cases::wrap;
 use hailgully_tests::plane::listing::{self, Listed};
 use hailgully_tests::plane::{write, Region, LENGTHS};
-use hailgully_tests::space;
+use hailgully_tests::space::{self, Edition};
 
 pub fn families() -> Vec<Family> {
     vec![fixed("regions: cells around the poles", 2, poles), fixed("regions: cells of level 1", 60, first_level)]
@@ -26,19 +26,22 @@ fn first_level(run: &mut Run, piece: u64) {
     listing::first_level().iter().skip(piece as usize).step_by(60).for_each(|cell| corners(run, cell));
 }
 
-/// The south-west and the north-east square of a cell, above and below ground, written and read at its level and all finer ones.
+/// The south-west and the north-east square of a cell, above and below ground, written and read at its level and all finer ones, in both editions.
 fn corners(run: &mut Run, cell: &Listed) {
     let north_east = (cell.west + cell.width - 1, cell.south + cell.height - 1);
     for ((eastward, latitude), layer) in [((cell.west, cell.south), 1_234_567_890), (north_east, -1_234_567_890)] {
         let (longitude, latitude) = (wrap(eastward), latitude);
-        let (flat, tall) = (write::finest(longitude, latitude), space::finest((longitude, latitude), layer));
+        let flat = write::finest(longitude, latitude);
+        let tall = Edition::BOTH.map(|edition| space::finest(edition, (longitude, latitude), layer));
         for level in cell.level..=10 {
             let (length, tall_length) = (LENGTHS[level - 1], space::LENGTHS[level - 1]);
             run.plane_write(level as i64, longitude, latitude, 21, 1);
             run.plane_read(&flat[..length]);
             run.plane_box(&flat[..length]);
-            run.space_write(level as i64, (longitude, latitude), layer, 33, 1);
-            run.space_read(&tall[..tall_length]);
+            for (edition, tall) in (1..).zip(&tall) {
+                run.space_write(edition, level as i64, (longitude, latitude), layer, 33, 1);
+                run.space_read(edition, &tall[..tall_length]);
+            }
         }
     }
 }

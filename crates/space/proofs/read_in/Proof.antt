@@ -1,0 +1,53 @@
+-- `space::read_in` meets its contract. Assumes nothing.
+use mathlib.Core.Path.{_∙_, ap}
+use native.Mathlib.Omega.{arith}
+use lib.ListN.{length}
+use Rattle.grid.specs.Answers as answers
+use Rattle.space.specs.inner.Asking.{SpaceRoom}
+use Rattle.space.proofs.Reading.{Leveled, leveled, read-none, read-joined, lying}
+use borrow.Author.Needs.{needs}
+use Rattle.space.proofs.read_in.Statement.{statement}
+use Rattle.space.proofs.read_in.Tie as tie
+
+-- the level that was found is the code's
+known : (c : tie.Else1) → Leveled (length (c .before .before .before .args .code .now)) (c .before .level-of .result)
+known c = leveled _ (c .before .level-of .ensures) (c .if1 .left)
+
+-- and the code has its places
+room : (c : tie.Else1) → SpaceRoom (c .before .level-of .result) (c .before .before .before .args .code .now)
+room c = let t = known c in record { level-low = t .low; level-high = t .high; room = omega (arith, t .long) }
+
+level-of-requires : tie.Need-level-of-requires
+level-of-requires c κs = search needs
+
+refuse-requires : tie.Need-refuse-requires
+refuse-requires c κs = search needs
+
+returns : tie.Need-returns
+returns c = ap answers.refused (c .refuse .ensures) ∙ read-none _ (c .before .before .before .before .args .code .now) (c .before .before .level-of .ensures) (c .before .if1 .taken)
+
+plane-of-requires : tie.Need-plane-of-requires
+plane-of-requires c κs = room c
+
+height-of-requires : tie.Need-height-of-requires
+height-of-requires c κs = room (c .before)
+
+joined-requires : tie.Need-joined-requires
+joined-requires c κs = lying (c .before .before .before .before .before .args .second) (c .before .before .before .level-of .result) _ (c .height-of .result) (c .height-of .ensures)
+
+returns-2 : tie.Need-returns-2
+returns-2 c =
+    let s = c .before .before .before .before .before .before in
+    read-joined (s .args .second) (s .args .code .now) (c .before .before .before .before .level-of .result) (known (c .before .before .before)) (c .joined .ensures) (c .before .before .plane-of .ensures) (c .before .height-of .ensures)
+
+pub read-in-spec : {M : Type 1} → statement M
+read-in-spec =
+    tie.close
+    (tie.spec
+    level-of-requires
+    refuse-requires
+    returns
+    plane-of-requires
+    height-of-requires
+    joined-requires
+    returns-2)
