@@ -30,7 +30,7 @@ extern "C" {
 #endif
 
 #define HG_VERSION_MAJOR 0
-#define HG_VERSION_MINOR 2
+#define HG_VERSION_MINOR 3
 
 /* A refusal's number. */
 enum {

@@ -1,6 +1,6 @@
 #!/usr/bin/env bash
-# Every file of the repository belongs to something, and no line of a document is longer than 160 characters: it names what breaks this, and fails
-# if something does.
+# Every file of the repository belongs to something, no line of a document is longer than 160 characters, and the header, hailgully.pc and both
+# bindings say one version: it names what breaks this, and fails if something does.
 set -u
 cd "$(dirname "$(dirname "$(readlink -f "$0")")")" || exit 1
 crates=$(awk -F: '!/^#/ && NF > 1 { printf "%s%s", sep, $1; sep = "|" }' crates.txt)
@@ -21,4 +21,9 @@ status=0
 while IFS= read -r document; do
   longest=$(wc -L <"$document") && [ "$longest" -le 160 ] || { echo "files: $document has a line of $longest characters" && status=1; }
 done < <(printf '%s\n' "$files" | grep '\.md$')
+header=$(sed -n 's/^#define HG_VERSION_M[AI][JN]OR \([0-9]*\)$/\1/p' include/hailgully.h | paste -s -d .)
+for other in include/hailgully.pc bindings/raw/Cargo.toml bindings/rust/Cargo.toml; do
+  version=$(sed -n -E 's/^(Version: |version = ")([0-9]+\.[0-9]+)(\.0")?$/\2/p' "$other")
+  [ -n "$header" ] && [ "$version" = "$header" ] || { echo "files: $other says version '$version', the header '$header'" && status=1; }
+done
 exit "$status"

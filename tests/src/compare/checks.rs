@@ -12,10 +12,14 @@ use hailgully_tests::refusals::Refusal;
 use hailgully_tests::space::{self, Edition};
 use hailgully_tests::{arcseconds, reference, slips};
 use std::fmt::Debug;
+use std::sync::atomic::{AtomicBool, Ordering};
+use std::sync::Arc;
 
 pub struct Run {
     pub random: Random,
     pub tally: Tally,
+    /// Where only a first difference is asked for: whether a thread has found it.
+    found: Option<Arc<AtomicBool>>,
 }
 
 /// A code as text, with anything odd escaped.
@@ -36,8 +40,13 @@ struct Held {
 }
 
 impl Run {
-    pub fn new(seed: u64) -> Run {
-        Run { random: Random::new(seed), tally: Tally::default() }
+    pub fn new(seed: u64, found: Option<Arc<AtomicBool>>) -> Run {
+        Run { random: Random::new(seed), tally: Tally::default(), found }
+    }
+
+    /// Whether only a first difference is asked for, and is found: then no case is asked any more.
+    pub fn over(&self) -> bool {
+        self.found.as_ref().is_some_and(|found| self.tally.differences > 0 || found.load(Ordering::Relaxed))
     }
 
     /// Counts a case. The refusal given must be the first of the order that applies, found here without the oracle's own order.
@@ -119,6 +128,9 @@ impl Run {
     }
 
     pub fn plane_write(&mut self, level: i64, east: i64, north: i64, length: usize, at: usize) {
+        if self.over() {
+            return;
+        }
         let own = self.writer(
             length,
             |line| plane::write(level, east, north, line, at),
@@ -135,6 +147,9 @@ impl Run {
     }
 
     pub fn plane_read(&mut self, code: &[u8]) {
+        if self.over() {
+            return;
+        }
         let own = plane::read(code);
         self.reader(code, own, library::plane_read, || format!("hg_plane_read {}", show(code)));
         self.count(Call::PlaneRead, reader_bits(code, own.err()), own.err());
@@ -144,6 +159,9 @@ impl Run {
     }
 
     pub fn space_write(&mut self, edition: i64, level: i64, (east, north): (i64, i64), layer: i64, length: usize, at: usize) {
+        if self.over() {
+            return;
+        }
         let own = self.writer(
             length,
             |line| space::write(edition, level, east, north, layer, line, at),
@@ -172,6 +190,9 @@ impl Run {
     }
 
     pub fn space_read(&mut self, edition: i64, code: &[u8]) {
+        if self.over() {
+            return;
+        }
         let own = space::read(edition, code);
         let library = |code: &mut [u8]| library::space_read(edition, code);
         self.reader(code, own, library, || format!("hg_space_read edition {edition} {}", show(code)));
@@ -196,6 +217,9 @@ impl Run {
     }
 
     pub fn reference_write(&mut self, base: &[u8], target: &[u8], length: usize, at: usize) {
+        if self.over() {
+            return;
+        }
         let told = || format!("hg_reference_write {} to {} line of {length} at {at}", show(base), show(target));
         let (mut first, mut second) = (self.hold(base), self.hold(target));
         let own = self.writer(
@@ -223,6 +247,9 @@ impl Run {
     }
 
     pub fn reference_read(&mut self, code: &[u8], length: usize, at: usize) {
+        if self.over() {
+            return;
+        }
         let told = || format!("hg_reference_read {} line of {length} at {at}", show(code));
         let mut held = self.hold(code);
         let own =
@@ -243,6 +270,9 @@ impl Run {
     }
 
     pub fn arcseconds(&mut self, longitude: u64, latitude: u64) {
+        if self.over() {
+            return;
+        }
         let own = arcseconds::arcseconds(longitude, latitude);
         self.answer(own, library::arcseconds(longitude, latitude), || {
             let (east, north) = (f64::from_bits(longitude), f64::from_bits(latitude));
@@ -255,6 +285,9 @@ impl Run {
     }
 
     pub fn plane_box(&mut self, code: &[u8]) {
+        if self.over() {
+            return;
+        }
         let own = arcseconds::plane_box(code);
         let got = self.reader(code, own, library::plane_box, || format!("hg_plane_box {}", show(code)));
         self.count(Call::PlaneBox, reader_bits(code, own.err()), own.err());

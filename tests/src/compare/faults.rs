@@ -58,7 +58,8 @@ fn fault(number: u32) -> Option<Fault> {
     }
 }
 
-pub fn of_library(number: u32) -> bool {
+/// The fixed families show it sooner than random cases do.
+pub fn fixed_first(number: u32) -> bool {
     fault(number).is_some()
 }
 

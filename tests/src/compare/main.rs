@@ -21,33 +21,31 @@ use std::time::Instant;
 use tally::Tally;
 use work::do_all;
 
-/// Turns each slip and each fault on in turn; hands back whether all were found. One only counts as found if the same cases show no difference
-/// without it.
+/// Turns each slip and each fault on in turn; hands back whether all were found. One only counts as found if the piece of work that shows it shows no
+/// difference without it.
 fn all_slips(families: &[Family], options: &Options) -> bool {
     let (fixed, random) = (work::fixed(families), work::random(families, 300_000));
-    let ask = |slip| {
+    let ask = |slip, pieces: &[work::Piece]| {
         slips::set(slip);
-        let [first, second] = if faults::of_library(slip) { [&fixed, &random] } else { [&random, &fixed] };
-        let mut tally = do_all(families, first, options, options.seed, true);
-        if tally.differences == 0 {
-            tally.add(do_all(families, second, options, options.seed, true));
-        }
+        let tally = do_all(families, pieces, options, options.seed, true);
         slips::set(0);
         tally
     };
-    let without = ask(0);
-    println!("no slip: {} cases, {} differences", without.cases, without.differences);
-    if let Some(told) = without.told.first() {
-        println!("DIFFERENCE: {told}");
-        return false;
-    }
-    let mut unfound = 0;
     let asked = |slip: &u32| options.huge || !faults::huge(*slip);
+    let mut unfound = 0;
     for slip in (1..=faults::count()).filter(asked) {
-        let tally = ask(slip);
-        let found = if tally.differences > 0 { "found within" } else { "NOT FOUND in" };
-        unfound += u32::from(tally.differences == 0);
-        println!("slip {slip}: {found} {} cases: {}", tally.cases, faults::words(slip));
+        let [first, second] = if faults::fixed_first(slip) { [&fixed, &random] } else { [&random, &fixed] };
+        let mut tally = ask(slip, first);
+        if tally.differences == 0 {
+            tally.add(ask(slip, second));
+        }
+        let without = ask(0, tally.found_in.as_slice());
+        if let Some(told) = without.told.first() {
+            println!("DIFFERENCE without a slip: {told}");
+        }
+        let well = tally.differences > 0 && without.differences == 0;
+        unfound += u32::from(!well);
+        println!("slip {slip}: {} {} cases: {}", if well { "found within" } else { "NOT FOUND in" }, tally.cases, faults::words(slip));
     }
     println!("slips: {} in all, {unfound} not found", (1..=faults::count()).filter(asked).count());
     unfound == 0

@@ -2,6 +2,7 @@
 
 use crate::calls::{words, Call};
 use crate::regions::{self, SLOTS};
+use crate::work::Piece;
 use hailgully_tests::slips;
 use std::collections::BTreeMap;
 
@@ -96,6 +97,8 @@ pub struct Tally {
     pub families: BTreeMap<(usize, &'static str), u64>,
     pub own_checks: u64,
     pub differences: u64,
+    /// A piece of work in which there were some.
+    pub found_in: Option<Piece>,
     /// The first few differences in words.
     pub told: Vec<String>,
 }
@@ -120,6 +123,7 @@ impl Tally {
         }
         self.own_checks += other.own_checks;
         self.differences += other.differences;
+        self.found_in = self.found_in.or(other.found_in);
         self.told.extend(other.told);
         self.told.truncate(MOST_TOLD);
     }

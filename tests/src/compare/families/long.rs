@@ -9,13 +9,11 @@ use hailgully_tests::space::{self, Edition};
 /// Memory of 2^31 bytes and more is lent only where it may be: untouched pages cost a machine nothing, and an emulator gigabytes.
 pub fn families(huge: bool) -> Vec<Family> {
     let mut families = vec![
-        fixed("long: lines", 16 * SMALL.len() as u64, |run, piece| lines(run, around(&SMALL, piece))),
-        fixed("long: codes", 16 * SMALL.len() as u64, |run, piece| codes(run, around(&SMALL, piece))),
         fixed("long: editions", 16, editions),
+        fixed("long: lines and codes", 16 * SMALL.len() as u64, |run, piece| lines_and_codes(run, around(&SMALL, piece))),
     ];
     if huge {
-        families.push(fixed("long: huge lines", HUGE.len() as u64, |run, piece| lines(run, around(&HUGE, piece))));
-        families.push(fixed("long: huge codes", HUGE.len() as u64, |run, piece| codes(run, around(&HUGE, piece))));
+        families.push(fixed("long: huge lines and codes", HUGE.len() as u64, |run, piece| lines_and_codes(run, around(&HUGE, piece))));
     }
     families
 }
@@ -31,6 +29,12 @@ type Around = (usize, (i64, i64));
 fn around(bits: &[u32], piece: u64) -> Around {
     let (at, square) = (piece as usize % bits.len(), piece as usize / bits.len());
     (1 << bits[at], cases::places_of_each_kind()[square])
+}
+
+/// Both in turn, so that a fault of either is met soon.
+fn lines_and_codes(run: &mut Run, around: Around) {
+    lines(run, around);
+    codes(run, around);
 }
 
 /// Lines with just enough room, or one byte less, at places around the number; lines of a little more than the number; places near 2^64.
