@@ -1,4 +1,5 @@
-/* A worked example: the cell that a flight over a tower holds, and its neighbour, from a receiver's arc-seconds; and an altimeter's code.
+/* A worked example: the cell that a flight over a tower holds, and its neighbour, from a receiver's arc-seconds; a survey at the pole and at 180
+ * degrees; and an altimeter's code.
  *
  *     cc -I ../target/hailgully plan.c ../target/hailgully/libhailgully.a -o plan && ./plan
  */
@@ -37,6 +38,17 @@ int main(void) {
     hg_written r = hg_reference_write(base, b.length, east, e.length, reference, sizeof reference, 0);
     if (refused("reference", r.refusal)) return 1;
     printf("neighbour %.*s\n", (int)r.length, (const char *)reference);
+
+    /* A polar survey's receiver prints 180 degrees east, 648,000 arc-seconds, and at the pole 90 degrees north. 180 is -180: a cell begins there. */
+    const double north[] = {302400.5, 324000.0};
+    for (int i = 0; i < 2; i++) {
+        hg_units there = hg_arcseconds(648000.0, north[i]);
+        if (refused("survey", there.refusal)) return 1;
+        w = hg_plane_write(6, there.longitude, there.latitude, base, sizeof base, 0);
+        if (refused("survey's code", w.refusal)) return 1;
+        printf("survey %d %d: %.*s, west %d\n", (int)there.longitude, (int)there.latitude, (int)w.length, (const char *)base,
+               (int)hg_plane_read(base, w.length).west);
+    }
 
     /* An altimeter that cuts layers by bits sends codes of edition 2. In edition 1 this one is refused at its F; others are read as other layers. */
     const uint8_t *sent = (const uint8_t *)"N050J0047050390B8F";

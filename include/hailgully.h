@@ -3,6 +3,9 @@
  * A unit is 1/2048 arc-second; one degree is 7,372,800 units. A position names a unit square by its west and south corner. The ranges of
  * longitude, latitude, layer and level are the constants below. docs/GRID.md has the rules, with pictures.
  *
+ * Longitudes run up to 180 degrees and latitudes up to 90, both included, though no square begins there: 180 degrees stands for -180, and 90 for
+ * the unit south of it at the same longitude. The west of a cell that is read is never 180 degrees, and its south never 90.
+ *
  * Space codes have two editions, which make height characters of a layer in two ways, and the caller names one by its number: 1 is the grid's own;
  * 2 cuts the layer by bits, as annex C.14 of the standard does, with F as a digit and a layer range of its own. Nothing in a code says its edition:
  * every code of edition 1 can be read in edition 2 too, mostly as other layers.
@@ -30,14 +33,14 @@ extern "C" {
 #endif
 
 #define HG_VERSION_MAJOR 0
-#define HG_VERSION_MINOR 3
+#define HG_VERSION_MINOR 4
 
 /* A refusal's number. */
 enum {
     HG_NONE = 0,            /* the call succeeded */
     HG_LEVEL = 1,           /* level outside 1 to 10 */
-    HG_LONGITUDE = 2,       /* longitude outside its range (either infinity too) */
-    HG_LATITUDE = 3,        /* latitude outside its range (either infinity too) */
+    HG_LONGITUDE = 2,       /* longitude outside its range, -180 to 180 degrees (either infinity too) */
+    HG_LATITUDE = 3,        /* latitude outside its range, -90 to 90 degrees (either infinity too) */
     HG_LAYER = 4,           /* layer outside its range, which is the edition's */
     HG_ROOM = 5,            /* from the place given, the line lacks bytes for the whole code; a place past the end counts as none */
     HG_LENGTH = 6,          /* a code's length is none of its kind */
@@ -53,9 +56,9 @@ enum {
 /* Ranges, in units and layers; each end belongs to its range. Layers are those of edition 1, and with a 2 behind them those of edition 2. */
 #define HG_DEGREE INT64_C(7372800)
 #define HG_LONGITUDE_LEAST INT64_C(-1327104000)
-#define HG_LONGITUDE_GREATEST INT64_C(1327103999)
+#define HG_LONGITUDE_GREATEST INT64_C(1327104000) /* 180 degrees: stands for -180 */
 #define HG_LATITUDE_LEAST INT64_C(-663552000)
-#define HG_LATITUDE_GREATEST INT64_C(663551999)
+#define HG_LATITUDE_GREATEST INT64_C(663552000) /* 90 degrees: stands for the unit south of it */
 #define HG_LAYER_LEAST INT64_C(-1887436800)
 #define HG_LAYER_GREATEST INT64_C(1887436799)
 #define HG_LAYER_LEAST_2 INT64_C(-2147483648)
@@ -98,10 +101,10 @@ HG_LAID_OUT(offsetof(hg_box, height) == 40);
 #endif
 
 /* Writes the plane code of a level for a position. Refusals, in order: 1, 2, 3, 5.
- * Example: level 8 at (857549557, 294861578) is N50J47539B825534, 16 bytes. */
+ * Example: level 8 at (857549557, 294861578) is N50J47539B825534, 16 bytes; level 1 at (1327104000, 0), as at (-1327104000, 0), is N01A. */
 hg_written hg_plane_write(int64_t level, int64_t longitude, int64_t latitude, uint8_t *line, size_t length, size_t at);
 
-/* Reads a plane code. Refusals, in order: 6, 7. West lies in the longitude range, and the cell runs eastward from it, past 180 degrees if need be.
+/* Reads a plane code. Refusals, in order: 6, 7. West lies from -180 degrees to below 180, and the cell runs eastward from it, past 180 if need be.
  * Example: N31A is level 1, west 0, south 0, width 44236800, height 29491200. */
 hg_plane_cell hg_plane_read(const uint8_t *code, size_t length);
 
@@ -121,8 +124,9 @@ hg_written hg_reference_write(const uint8_t *base, size_t base_length, const uin
  * Example: N31A0000000-0A leads to S31A0000000. */
 hg_written hg_reference_read(const uint8_t *code, size_t code_length, uint8_t *line, size_t length, size_t at);
 
-/* Arc-seconds to whole units: the greatest unit not above each reading. Refusals, in order: 11, 2, 3.
- * Example: (-0.0001, 0.5) is longitude -1, latitude 1024. */
+/* Arc-seconds to whole units: the greatest unit not above each reading. Refusals, in order: 11, 2, 3. The readings 648000 and 324000, which are 180
+ * and 90 degrees, are the greatest of their ranges: any f64 above gets 2 or 3, as does any below -648000 or -324000.
+ * Example: (-0.0001, 0.5) is longitude -1, latitude 1024; (648000, 324000) is longitude 1327104000, latitude 663552000, which the writers take. */
 hg_units hg_arcseconds(double longitude, double latitude);
 
 /* The box of a plane code in arc-seconds, exactly. Refusals, in order: 6, 7.

@@ -103,16 +103,27 @@ static void writers(int64_t edition, int64_t level, int64_t longitude, int64_t l
     }
 }
 
+/* A number of a range, or one past it; often an end, or one past it. */
+static int64_t about(int64_t least, int64_t greatest) {
+    switch (dice() % 8) {
+    case 0: return between(least - 1, least);
+    case 1: return between(greatest, greatest + 1);
+    default: return between(least - 1, greatest + 1);
+    }
+}
+
 int main(int words, char **word) {
     set_up();
     if (words > 1 && strcmp(word[1], "outside") == 0) hg_plane_read(lend(CODE, NULL, ROOM) + ROOM - 3, 4);
     if (words > 1 && strcmp(word[1], "code") == 0) hg_plane_write(1, 0, 0, lend(CODE, NULL, 4), 4, 0);
     for (int i = 0; i < 2000; i++) {
         int polar = dice() % 3 == 0;
-        int64_t latitude = polar ? between(648806400, 663551999) : between(-664000000, 664000000);
+        int64_t latitude = polar ? between(648806400, 663551999) : about(HG_LATITUDE_LEAST, HG_LATITUDE_GREATEST);
         if (dice() % 2) latitude = -1 - latitude;
         int64_t edition = dice() % 8 ? between(1, 2) : between(-1, 4);
-        writers(edition, between(0, 11), between(-1327104001, 1327104000), latitude, between(HG_LAYER_LEAST_2 - 1, HG_LAYER_GREATEST_2 + 1));
+        int64_t longitude = about(HG_LONGITUDE_LEAST, HG_LONGITUDE_GREATEST);
+        writers(edition, between(0, 11), longitude, latitude, between(HG_LAYER_LEAST_2 - 1, HG_LAYER_GREATEST_2 + 1));
+        count(hg_arcseconds((double)longitude / 2048.0, (double)latitude / 2048.0).refusal);
         count(hg_arcseconds((double)between(-1400000000, 1400000000) / 2048.0, (double)between(-700000000, 700000000) / 2048.0).refusal);
     }
     printf("%lu calls, %lu refused, %lu accepted a long code\n", calls, refused, accepted);

@@ -1,8 +1,9 @@
-/* Document 01's cases P1 to P13, its run cases, the examples of source 000, clause 8.1, and document 02's Wish 1, asked of the library as it is
- * linked.
+/* Document 01's cases P1 to P13, its run cases, the examples of source 000, clause 8.1, and document 02's Wishes 1 and 2, asked of the library as
+ * it is linked.
  * Prints each case that comes out otherwise, and last how many there were; fails if there was one.
  */
 #include <inttypes.h>
+#include <math.h>
 #include <stdio.h>
 #include <string.h>
 
@@ -102,7 +103,7 @@ static void editions(void) {
     for (size_t i = 0; i < sizeof odd / sizeof odd[0]; i++) {
         space(odd[i], 0, 0, 0, 0, "refused 1 0 1");
         space(odd[i], 1, 0, 0, 0, "refused 13 0 1");
-        space(odd[i], 1, 1327104000, 663552000, INT64_MAX, "refused 13 0 1");
+        space(odd[i], 1, 1327104001, 663552001, INT64_MAX, "refused 13 0 1");
         layers(odd[i], "N131A63", "refused 13 0 1");
         layers(odd[i], "N131A6", "refused 13 0 1");
         layers(odd[i], "n131A63", "refused 13 0 1");
@@ -114,6 +115,75 @@ static void received(double longitude, double latitude, const char *wanted) {
     hg_units at = hg_arcseconds(longitude, latitude);
     held(at.refusal.number == 0, wanted, "a refusal");
     plane(5, at.longitude, at.latitude, wanted);
+}
+
+/* Readings in arc-seconds as units, "longitude latitude", or their refusal. */
+static void reading(double longitude, double latitude, const char *wanted) {
+    char got[80];
+    hg_units at = hg_arcseconds(longitude, latitude);
+    if (at.refusal.number != 0)
+        snprintf(got, sizeof got, "refused %" PRIu32 " %" PRIu64 " %" PRIu32, at.refusal.number, at.refusal.place, at.refusal.ordinal);
+    else
+        snprintf(got, sizeof got, "%" PRId32 " %" PRId32, at.longitude, at.latitude);
+    held(strcmp(got, wanted) == 0, wanted, got);
+}
+
+/* One position as another: the plane code and both editions' space codes, at every level. */
+static void same(int64_t longitude, int64_t latitude, int64_t other_longitude, int64_t other_latitude) {
+    char what[80];
+    for (int64_t level = HG_LEVEL_LEAST; level <= HG_LEVEL_GREATEST; level++) {
+        uint8_t one[HG_SPACE_MOST] = {0}, other[HG_SPACE_MOST] = {0};
+        snprintf(what, sizeof what, "level %" PRId64 " at %" PRId64 " %" PRId64, level, longitude, latitude);
+        hg_written w = hg_plane_write(level, longitude, latitude, one, sizeof one, 0);
+        hg_written v = hg_plane_write(level, other_longitude, other_latitude, other, sizeof other, 0);
+        held(w.refusal.number == 0 && w.length == v.length && memcmp(one, other, sizeof one) == 0, what, "another plane code");
+        for (int64_t edition = 1; edition <= 2; edition++) {
+            w = hg_space_write(edition, level, longitude, latitude, -7, one, sizeof one, 0);
+            v = hg_space_write(edition, level, other_longitude, other_latitude, -7, other, sizeof other, 0);
+            held(w.refusal.number == 0 && w.length == v.length && memcmp(one, other, sizeof one) == 0, what, "another space code");
+        }
+    }
+}
+
+/* Wish 2: 180 degrees is -180, 90 degrees is the unit south of it, both at once are both, and one unit further is refused. Document 01's run case of
+ * longitude 1,327,104,000 is replaced by it. A reading just above is refused though its floor is the end. */
+static void ends(void) {
+    static const int64_t latitudes[] = {0, -1, 294861578, 648806399, 648806400, 656179200, 663551999, -648806401, -663552000};
+    static const int64_t longitudes[] = {0, -1, 857549557, 1327103999, -1327104000};
+    const double x = 0x1p-33, y = 0x1p-34; /* how far the next f64 is from 648000, and from 324000 */
+    for (size_t i = 0; i < sizeof latitudes / sizeof latitudes[0]; i++) {
+        same(HG_LONGITUDE_GREATEST, latitudes[i], HG_LONGITUDE_LEAST, latitudes[i]);
+        plane(1, HG_LONGITUDE_GREATEST + 1, latitudes[i], "refused 2 0 1");
+        plane(1, HG_LONGITUDE_LEAST - 1, latitudes[i], "refused 2 0 1");
+    }
+    for (size_t i = 0; i < sizeof longitudes / sizeof longitudes[0]; i++) {
+        same(longitudes[i], HG_LATITUDE_GREATEST, longitudes[i], 663551999);
+        plane(1, longitudes[i], HG_LATITUDE_GREATEST + 1, "refused 3 0 1");
+        plane(1, longitudes[i], HG_LATITUDE_LEAST - 1, "refused 3 0 1");
+    }
+    same(HG_LONGITUDE_GREATEST, HG_LATITUDE_GREATEST, HG_LONGITUDE_LEAST, 663551999);
+    plane(1, 1327104000, 0, "N01A");
+    plane(2, 1327104000, 0, "N01AB0");
+    plane(2, 1327104000, 648806400, "N00021");
+    plane(10, 1327104000, 663552000, "N0000000000000000000");
+    cell("N01A", "1 -1327104000 0 44236800 29491200");
+    plane(0, 1327104001, 663552001, "refused 1 0 1");
+    plane(1, 1327104001, 663552001, "refused 2 0 1");
+    plane(1, 1327104000, 663552001, "refused 3 0 1");
+    space(1, 1, 1327104000, 663552000, HG_LAYER_GREATEST + 1, "refused 4 0 1");
+    space(2, 1, 1327104000, 663552001, HG_LAYER_GREATEST_2 + 1, "refused 3 0 1");
+    reading(648000.0, 324000.0, "1327104000 663552000");
+    reading(648000.0, 0.0, "1327104000 0");
+    reading(-0.5, 324000.0, "-1024 663552000");
+    reading(-648000.0, -324000.0, "-1327104000 -663552000");
+    reading(648000.0 - x, 324000.0 - y, "1327103999 663551999");
+    reading(648000.0 + x, 324000.0, "refused 2 0 1");
+    reading(648000.0, 324000.0 + y, "refused 3 0 1");
+    reading(648000.0 + x, 324000.0 + y, "refused 2 0 1");
+    reading(-648000.0 + x, -324000.0 + y, "-1327104000 -663552000");
+    reading(-648000.0 - x, -324000.0, "refused 2 0 1");
+    reading(-648000.0, -324000.0 - y, "refused 3 0 1");
+    reading(NAN, 324000.0, "refused 11 0 1");
 }
 
 int main(void) {
@@ -148,13 +218,13 @@ int main(void) {
     reference("N50J475491E", "N50J475492E", "N50J475491E-10");
     reference("N50J475493E", "N50J475491E", "N50J475493E-B0");
     reference("N50J475493E", "N50J475492E", "N50J475493E-A0");
-    plane(1, 1327104000, 0, "refused 2 0 1");                       /* run */
-    cell("N00A", "refused 7 3");
+    cell("N00A", "refused 7 3");                                    /* run */
     cell("N61A", "refused 7 2");
     cell("", "refused 6 0");
     cell("n31A", "refused 7 0");
     cell("N31A", "1 0 0 44236800 29491200");
     editions();
+    ends();
     printf("%d cases, %d otherwise\n", asked, wrong);
     return wrong != 0;
 }

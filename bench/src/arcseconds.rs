@@ -39,7 +39,7 @@ fn same(readings: &[Reading]) {
         same_one(2.0 * x, 2.0 * y);
     }
     let limits = [648_000.0, 324_000.0, 0.0, 0.5, 1.0 / 2048.0, 1e-310, 1e300, f64::INFINITY, f64::NAN];
-    let awkward: Vec<f64> = limits.iter().flat_map(|v: &f64| [*v, -v, v.next_down(), -v.next_down()]).collect();
+    let awkward: Vec<f64> = limits.iter().flat_map(|v: &f64| [*v, -v, v.next_down(), -v.next_down(), v.next_up(), -v.next_up()]).collect();
     for &x in &awkward {
         for &y in &awkward {
             same_one(x, y);

@@ -56,6 +56,14 @@ impl Position {
         Position::any(dice, level, latitude)
     }
 
+    /// The same level and layer with other numbers: each end of either range, one unit before and one past it, or its own; in all pairs.
+    pub fn at_ends(self) -> impl Iterator<Item = Position> {
+        let about = |end: i64| [-end - 1, -end, -end + 1, end - 1, end, end + 1];
+        let longitudes = about(1_327_104_000).into_iter().chain([self.longitude]);
+        let latitudes = about(663_552_000).into_iter().chain([self.latitude]);
+        longitudes.flat_map(move |longitude| latitudes.clone().map(move |latitude| Position { longitude, latitude, ..self }))
+    }
+
     /// The same square with a layer of edition 2.
     pub fn in_edition_2(self, dice: &mut Dice) -> Position {
         Position { edition: 2, layer: dice.between(-2_147_483_648, 2_147_483_647), ..self }

@@ -128,17 +128,40 @@ pub fn put(level: usize, west: bool, south: bool, x: u32, y: u32, out: &mut [u8]
     out[19] = hex(y % 8);
 }
 
+/// Whether a position's numbers are a unit square's.
+#[inline(always)]
+pub fn on_globe(x: u64, y: u64) -> bool {
+    x < 1_327_104_000 && y < 663_552_000
+}
+
+/// The unit square of a position whose numbers are none: 180° is -180°, 90° is the unit south of it, and everything else is refused.
+pub fn at_an_end(longitude: i64, latitude: i64) -> Result<(i64, i64), Refusal> {
+    let longitude = if longitude == 1_327_104_000 { -1_327_104_000 } else { longitude };
+    let latitude = if latitude == 663_552_000 { 663_551_999 } else { latitude };
+    if index(longitude) >= 1_327_104_000 {
+        return refuse(2);
+    }
+    if index(latitude) >= 663_552_000 {
+        return refuse(3);
+    }
+    Ok((longitude, latitude))
+}
+
+#[cold]
+#[inline(never)]
+fn plane_write_at_an_end(level: i64, longitude: i64, latitude: i64, line: &mut [u8], at: usize) -> Result<usize, Refusal> {
+    let (longitude, latitude) = at_an_end(longitude, latitude)?;
+    plane_write(level, longitude, latitude, line, at)
+}
+
 #[inline(never)]
 pub fn plane_write(level: i64, longitude: i64, latitude: i64, line: &mut [u8], at: usize) -> Result<usize, Refusal> {
     if !(1..=10).contains(&level) {
         return refuse(1);
     }
     let (x, y) = (index(longitude), index(latitude));
-    if x >= 1_327_104_000 {
-        return refuse(2);
-    }
-    if y >= 663_552_000 {
-        return refuse(3);
+    if !on_globe(x, y) {
+        return plane_write_at_an_end(level, longitude, latitude, line, at);
     }
     let n = LENGTHS[level as usize];
     if at > line.len() || line.len() - at < n {
@@ -323,10 +346,10 @@ pub fn arcseconds(longitude: f64, latitude: f64) -> Result<Units, Refusal> {
         return refuse(11);
     }
     let (x, y) = (longitude * 2048.0, latitude * 2048.0);
-    if !(-1_327_104_000.0..1_327_104_000.0).contains(&x) {
+    if !(-1_327_104_000.0..=1_327_104_000.0).contains(&x) {
         return refuse(2);
     }
-    if !(-663_552_000.0..663_552_000.0).contains(&y) {
+    if !(-663_552_000.0..=663_552_000.0).contains(&y) {
         return refuse(3);
     }
     Ok(Units { longitude: floor(x), latitude: floor(y) })

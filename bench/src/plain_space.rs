@@ -1,7 +1,7 @@
 //! Space codes as a careful Rust programmer would write them by hand: one pass, each level's plane characters and then its height character. Both
 //! editions are compiled from one text, edition 1 into divisions by constants, edition 2 into shifts.
 
-use crate::plain::{cell, hex, index, value, Refusal, REFUSED_POLAR};
+use crate::plain::{at_an_end, cell, hex, index, on_globe, value, Refusal, REFUSED_POLAR};
 
 #[derive(Clone, Copy, PartialEq, Debug)]
 pub struct Cell {
@@ -181,16 +181,10 @@ fn put<E: Edition>(level: usize, p: &Place, out: &mut [u8]) {
     put_three(out, 29, x % 8, y % 8, E::digit(h, 10));
 }
 
-/// The writer of one edition, after the level and the edition.
+/// The writer of one edition, after the level, the edition and the position.
 #[inline(always)]
 fn write_in<E: Edition>(level: usize, longitude: i64, latitude: i64, layer: i64, line: &mut [u8], at: usize) -> Result<usize, Refusal> {
     let (x, y) = (index(longitude), index(latitude));
-    if x >= 1_327_104_000 {
-        return refuse(2);
-    }
-    if y >= 663_552_000 {
-        return refuse(3);
-    }
     if !(E::LEAST..=E::GREATEST).contains(&layer) {
         return refuse(4);
     }
@@ -206,10 +200,31 @@ fn write_in<E: Edition>(level: usize, longitude: i64, latitude: i64, layer: i64,
     Ok(n)
 }
 
+#[cold]
+#[inline(never)]
+fn write_at_an_end(
+    edition: i64,
+    level: i64,
+    longitude: i64,
+    latitude: i64,
+    layer: i64,
+    line: &mut [u8],
+    at: usize,
+) -> Result<usize, Refusal> {
+    if !(1..=2).contains(&edition) {
+        return refuse(13);
+    }
+    let (longitude, latitude) = at_an_end(longitude, latitude)?;
+    write(edition, level, longitude, latitude, layer, line, at)
+}
+
 #[inline(never)]
 pub fn write(edition: i64, level: i64, longitude: i64, latitude: i64, layer: i64, line: &mut [u8], at: usize) -> Result<usize, Refusal> {
     if !(1..=10).contains(&level) {
         return refuse(1);
+    }
+    if !on_globe(index(longitude), index(latitude)) {
+        return write_at_an_end(edition, level, longitude, latitude, layer, line, at);
     }
     match edition {
         1 => write_in::<Edition1>(level as usize, longitude, latitude, layer, line, at),

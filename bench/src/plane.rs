@@ -84,8 +84,12 @@ fn same_read(c: &Code) {
     plain::same(&ours.refusal, plain::plane_box(c.text()), |other| assert_eq!(cell, other));
 }
 
-/// The plain functions agree with the library on the inputs that are timed, and on spoilt ones.
+/// The plain functions agree with the library on the inputs that are timed, at the ends of the ranges, and on spoilt ones.
 fn same(dice: &mut Dice, at: &[Position], codes: &[Code]) {
+    for p in at.iter().take(100).flat_map(|p| p.at_ends()) {
+        same_write(&p, 24, 2);
+        same_write(&p, 8, 2);
+    }
     for (p, c) in at.iter().zip(codes) {
         same_write(p, 24, 2);
         same_write(p, dice.between(0, 24) as usize, dice.between(0, 25) as usize);

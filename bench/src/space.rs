@@ -59,8 +59,12 @@ fn same_read(edition: i64, c: &Code) {
     plain::same(&ours.refusal, plain_space::read(edition, c.text()), |other| assert_eq!(cell, other));
 }
 
-/// The plain functions agree with the library on the inputs that are timed, and on spoilt ones.
+/// The plain functions agree with the library on the inputs that are timed, at the ends of the ranges, and on spoilt ones.
 fn same(dice: &mut Dice, at: &[Position], codes: &[Code]) {
+    for p in at.iter().take(100).flat_map(|p| p.at_ends()) {
+        same_write(&p, 36, 2);
+        same_write(&p, 9, 2);
+    }
     for (p, c) in at.iter().zip(codes) {
         same_write(p, 36, 2);
         same_write(p, dice.between(0, 36) as usize, dice.between(0, 37) as usize);

@@ -1,19 +1,18 @@
 //! Arc-second readings, worked out from the bits of the f64 in whole numbers.
 
-use crate::plane::{self, within, LATITUDE, LONGITUDE};
+use crate::plane::{self, LATITUDE, LONGITUDE};
 use crate::refusals::{refusal, Refusal};
 use crate::slips;
 
 /// A reading: not a number, an infinity, or "its sign, whole significand and
 /// power of two".
-#[derive(Clone, Copy, Debug, PartialEq, Eq)]
-pub enum Reading {
+enum Reading {
     NotANumber,
     Infinite,
     Finite { negative: bool, significand: i128, power: i32 },
 }
 
-pub fn reading(bits: u64) -> Reading {
+fn reading(bits: u64) -> Reading {
     let negative = bits >> 63 == 1;
     let exponent = (bits >> 52) & 0x7ff;
     let fraction = bits & 0xf_ffff_ffff_ffff;
@@ -25,25 +24,21 @@ pub fn reading(bits: u64) -> Reading {
     }
 }
 
-/// "The greatest whole units not above 2048 times the reading"; nothing where
-/// that number is far outside every range.
-fn units(bits: u64) -> Option<i64> {
+/// 2048 times a finite reading, "multiplied clear of that power": a whole
+/// number, and the whole number that it is to be divided by. Nothing where it is
+/// far outside every range.
+fn clear(bits: u64) -> Option<(i128, i128)> {
     let Reading::Finite { negative, significand, power } = reading(bits) else {
         return None;
     };
     let signed = if negative { -significand } else { significand };
-    // 2048 is 2 to the 11.
-    let power = power + 11;
-    if power >= 0 {
-        // A significand of 53 bits, or 0, moved up.
-        return if power > 40 { None } else { i64::try_from(signed << power).ok() };
+    // 2048 is 2 to the 11. A significand has 53 bits: divided by 2 to the 90, or
+    // by more, it lies between -1 and 1.
+    match power + 11 {
+        41.. => None,
+        up @ 0..=40 => Some((signed << up, 1)),
+        down => Some((signed, 1 << (-down).min(90))),
     }
-    let down = (-power).min(100);
-    if slips::on(slips::TOWARD_ZERO) {
-        return Some((signed / (1i128 << down)) as i64);
-    }
-    // The shift of a negative number goes down, not toward zero.
-    Some((signed >> down) as i64)
 }
 
 fn not_a_number(bits: u64) -> bool {
@@ -54,10 +49,22 @@ fn not_a_number(bits: u64) -> bool {
     }
 }
 
-/// The units of one reading, if they lie in the range.
-pub fn one(bits: u64, range: (i64, i64)) -> Option<i32> {
-    let whole = units(bits)?;
-    within(whole, range).then_some(whole as i32)
+/// Whether refusal 2 or 3 does not begin yet: "for readings they begin just
+/// above 648,000 and 324,000". The ends are given in units.
+fn inside((number, over): (i128, i128), (least, greatest): (i64, i64)) -> bool {
+    let (least, greatest) = (i128::from(least) * over, i128::from(greatest) * over);
+    match slips::current() {
+        slips::FLOOR_IN_RANGE => least <= number && number < greatest + over,
+        slips::OLD_READING_ENDS => least <= number && number < greatest,
+        _ => least <= number && number <= greatest,
+    }
+}
+
+/// "The greatest whole units not above 2048 times the reading", if it lies in
+/// the range.
+fn one(bits: u64, range: (i64, i64)) -> Option<i32> {
+    let (number, over) = clear(bits).filter(|&times_2048| inside(times_2048, range))?;
+    Some(if slips::on(slips::TOWARD_ZERO) { number / over } else { number.div_euclid(over) } as i32)
 }
 
 /// A longitude and a latitude, given as the bits of two f64: refusals 11, 2, 3.
@@ -71,7 +78,11 @@ pub fn arcseconds(longitude: u64, latitude: u64) -> Result<(i32, i32), Refusal> 
     }
     let east = one(longitude, LONGITUDE).ok_or(refusal(2))?;
     let north = one(latitude, LATITUDE).ok_or(refusal(3))?;
-    Ok((east, north))
+    Ok(match slips::current() {
+        slips::READING_TURNED => (plane::wrap(i64::from(east)) as i32, north),
+        slips::POLE_READ_AT_0 if i64::from(north) == LATITUDE.1 => (0, north),
+        _ => (east, north),
+    })
 }
 
 /// The bits of the f64 that is exactly this unit count over 2048.

@@ -10,7 +10,7 @@ pub use document::*;
 pub use edges::*;
 pub use readings::*;
 
-use crate::plane::{self, DEGREE, LATITUDE, LENGTHS, LONGITUDE, POLAR_INDEX, TURN};
+use crate::plane::{self, wrap, DEGREE, LENGTHS, POLAR_INDEX, SOUTH, WEST};
 
 /// Random numbers that depend on the seed alone (splitmix64).
 pub struct Random(u64);
@@ -60,13 +60,8 @@ fn at_index(north: bool, index: i64) -> i64 {
     }
 }
 
-/// A longitude brought back into the range by whole turns.
-pub fn wrap(longitude: i64) -> i64 {
-    (longitude + TURN / 2).rem_euclid(TURN) - TURN / 2
-}
-
 pub fn random_longitude(random: &mut Random) -> i64 {
-    random.between(LONGITUDE.0, LONGITUDE.1)
+    random.between(WEST.0, WEST.1)
 }
 
 /// Any square below 88°.
@@ -123,7 +118,7 @@ pub fn near_edge(random: &mut Random) -> (i64, i64) {
         1 => south + random.between(-1, 1),
         _ => south + height + random.between(-1, 1),
     };
-    (longitude, latitude.clamp(LATITUDE.0, LATITUDE.1))
+    (longitude, latitude.clamp(SOUTH.0, SOUTH.1))
 }
 
 /// A square of any kind.

@@ -1,5 +1,5 @@
-//! The oracle: document 01, and of document 02 Wish 1, written a second time,
-//! from the documents alone.
+//! The oracle: document 01, and of document 02 Wishes 1 and 2, written a second
+//! time, from the documents alone.
 //!
 //! Plane codes stand here twice. `plane::listing` lists every cell that a cell
 //! is divided into, just as the document describes them, and looks for the one

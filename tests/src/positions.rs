@@ -1,5 +1,5 @@
-//! The cases of document 01, "Positions to check", and those of Wish 1 of
-//! document 02, asked of the oracle.
+//! The cases of document 01, "Positions to check", and those of Wishes 1 and 2
+//! of document 02, asked of the oracle.
 
 use crate::arcseconds::{arcseconds, over_2048, plane_box};
 use crate::cases::{self, Random};
@@ -135,7 +135,7 @@ fn editions() {
     let mut write = |edition, level, longitude, layer| space::write(edition, level, longitude, 0, layer, &mut line, 0);
     for edition in cases::ODD_EDITIONS {
         assert_eq!(write(edition, 1, 0, 0), Err(refusal(13)));
-        assert_eq!(write(edition, 1, 1_327_104_000, 1 << 40), Err(refusal(13)));
+        assert_eq!(write(edition, 1, 1_327_104_001, 1 << 40), Err(refusal(13)));
         assert_eq!(write(edition, 0, 0, 0), Err(refusal(1)));
         assert_eq!(space::read(edition, b"N131A63"), Err(refusal(13)));
         assert_eq!(space::read(edition, b""), Err(refusal(13)));
@@ -162,8 +162,6 @@ fn bad(place: u64) -> Refusal {
 
 #[test]
 fn run_cases() {
-    let past = plane::write(1, 1_327_104_000, 0, &mut [0; 20], 0);
-    assert_eq!(past, Err(refusal(2)));
     assert_eq!(plane::read(b"N00A"), Err(bad(3)));
     assert_eq!(plane::read(b"N61A"), Err(bad(2)));
     assert_eq!(plane::read(b"N70A"), Err(bad(1)));
@@ -179,6 +177,47 @@ fn run_cases() {
     assert_eq!(reference::read(b"N31A-10", &mut line, 0), Err(refusal(8)));
     assert_eq!(reference::read(b"N31A0000000-H0", &mut line, 0), Err(bad(12)));
     assert_eq!(line, [7; 30]);
+}
+
+/// What both writers answer for a position: a refusal, or the plane code of its
+/// level, which is also the plane part of both editions' space codes.
+fn answered(longitude: i64, latitude: i64, level: i64) -> Result<String, Refusal> {
+    let mut line = [0; 20];
+    let plane = plane::write(level, longitude, latitude, &mut line, 0).map(|length| line[..length].to_vec());
+    for edition in Edition::BOTH {
+        let mut tall = [0; 32];
+        let space = space::write(edition as i64, level, longitude, latitude, -1, &mut tall, 0).map(|length| {
+            let (flat, length) = space::plane_part(&tall[..length]);
+            flat[..length].to_vec()
+        });
+        assert_eq!(space, plane);
+    }
+    plane.map(|code| String::from_utf8(code).unwrap())
+}
+
+/// Wish 2, "The pole itself and 180° exactly", in place of the Run case of
+/// longitude 1,327,104,000.
+#[test]
+fn pole_and_180() {
+    for level in 1..=10 {
+        for latitude in [0, -1, 294_861_578, 648_806_399, 648_806_400, 656_179_200, 663_551_999, -648_806_400, -663_552_000] {
+            assert_eq!(answered(1_327_104_000, latitude, level), Ok(plane_code(-1_327_104_000, latitude, level)));
+            assert_eq!(answered(1_327_104_001, latitude, level), Err(refusal(2)));
+            assert_eq!(answered(-1_327_104_001, latitude, level), Err(refusal(2)));
+        }
+        for longitude in [0, -1, 857_549_557, 1_327_103_999, -1_327_104_000] {
+            assert_eq!(answered(longitude, 663_552_000, level), Ok(plane_code(longitude, 663_551_999, level)));
+            assert_eq!(answered(longitude, 663_552_001, level), Err(refusal(3)));
+            assert_eq!(answered(longitude, -663_552_001, level), Err(refusal(3)));
+        }
+        assert_eq!(answered(1_327_104_000, 663_552_000, level), Ok(plane_code(-1_327_104_000, 663_551_999, level)));
+        assert_eq!(answered(1_327_104_001, 663_552_001, level), Err(refusal(2)));
+    }
+    assert_eq!(answered(1_327_104_000, 0, 1).unwrap(), "N01A");
+    assert_eq!(answered(1_327_104_000, 0, 2).unwrap(), "N01AB0");
+    assert_eq!(answered(1_327_104_000, 648_806_400, 2).unwrap(), "N00021");
+    assert_eq!(answered(5, 663_552_000, 10).unwrap(), zeros("N000"));
+    assert_eq!(plane::read(b"N01A").unwrap().west, -1_327_104_000);
 }
 
 #[test]
@@ -197,12 +236,18 @@ fn readings() {
     assert_eq!(of(0.0, -0.0), Ok((0, 0)));
     assert_eq!(of(-1.0 / 2048.0, -1e-300), Ok((-1, -1)));
     assert_eq!(of(-1.0 / 2048.0 - 1e-9, 1.0), Ok((-2, 2048)));
-    assert_eq!(of(-648_000.0, -324_000.0), Ok((-1_327_104_000, -663_552_000)));
-    assert_eq!(of(648_000.0, f64::INFINITY), Err(refusal(2)));
     assert_eq!(of(f64::INFINITY, f64::NAN), Err(refusal(11)));
-    assert_eq!(of(1.0, 324_000.0), Err(refusal(3)));
-    let below = f64::from_bits(648_000f64.to_bits() - 1);
-    assert_eq!(of(below, f64::from_bits(1)), Ok((1_327_103_999, 0)));
+    assert_eq!(of(648_000.0, f64::INFINITY), Err(refusal(3)));
+    // Each of the four edges: at it, and the f64 on either side of it.
+    assert_eq!(of(648_000.0, 324_000.0), Ok((1_327_104_000, 663_552_000)));
+    assert_eq!(of(-648_000.0, -324_000.0), Ok((-1_327_104_000, -663_552_000)));
+    assert_eq!(of(648_000f64.next_down(), 324_000f64.next_down()), Ok((1_327_103_999, 663_551_999)));
+    assert_eq!(of((-648_000f64).next_up(), (-324_000f64).next_up()), Ok((-1_327_104_000, -663_552_000)));
+    assert_eq!(of(648_000f64.next_up(), 0.0), Err(refusal(2)));
+    assert_eq!(of((-648_000f64).next_down(), 0.0), Err(refusal(2)));
+    assert_eq!(of(0.0, 324_000f64.next_up()), Err(refusal(3)));
+    assert_eq!(of(0.0, (-324_000f64).next_down()), Err(refusal(3)));
+    assert_eq!(of(648_000f64.next_up(), 324_000f64.next_up()), Err(refusal(2)));
     assert_eq!(of(f64::MAX, f64::MIN), Err(refusal(2)));
     let zone = plane_box(b"N30A").unwrap().map(f64::from_bits);
     assert_eq!(zone, [-21_600.0, 0.0, 21_600.0, 14_400.0]);
@@ -212,10 +257,10 @@ fn readings() {
         assert_eq!(f64::from_bits(over_2048(units)), units as f64 / 2048.0);
         // The floor by the bits against the f64's own floor, which is exact
         // here: 2048 times a reading only moves its power of two.
-        let reading = f64::from_bits(random.draw());
+        let reading = f64::from_bits(cases::any_reading(&mut random));
         let floor = (reading * 2048.0).floor();
         let own = of(reading, 0.0).map(|units| f64::from(units.0));
-        if (-1_327_104_000.0..=1_327_103_999.0).contains(&floor) {
+        if (-648_000.0..=648_000.0).contains(&reading) {
             assert_eq!(own, Ok(floor), "{reading:e}");
         } else {
             assert!(own.is_err(), "{reading:e}");
@@ -305,7 +350,7 @@ fn reference_round_trip() {
         let cell = plane::read(base.as_bytes()).unwrap();
         let east = random.between(-7, 7);
         let north = random.between(-7, 7);
-        let there = cases::wrap(longitude + east * i64::from(cell.width));
+        let there = plane::wrap(longitude + east * i64::from(cell.width));
         let up = latitude + north * i64::from(cell.height);
         if plane::outward(up) >= plane::POLAR_INDEX {
             continue;

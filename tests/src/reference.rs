@@ -2,7 +2,7 @@
 //! north in true compass sense, in every quarter: 0 to 7, or A to G for -1 to
 //! -7." The reader moves the base; the writer tries all offsets.
 
-use crate::plane::{self, level_of, polar, PlaneCell, LATITUDE, POLAR_INDEX, TURN};
+use crate::plane::{self, level_of, polar, PlaneCell, POLAR_INDEX, SOUTH, TURN};
 use crate::refusals::{bad_character, of_second_code, put, refusal, Refusal};
 use crate::slips;
 
@@ -71,7 +71,7 @@ pub fn write(base: &[u8], target: &[u8], line: &mut [u8], at: usize) -> Result<u
 /// Whether a move leads "to 88° or nearer a pole", or past the pole.
 pub fn reaches_pole(cell: &PlaneCell, north: i64) -> bool {
     let (_, south) = moved(cell, 0, north);
-    let past = south < LATITUDE.0 || south > LATITUDE.1;
+    let past = south < SOUTH.0 || south > SOUTH.1;
     past || (if south >= 0 { south } else { -1 - south }) >= POLAR_INDEX
 }
 

@@ -21,6 +21,12 @@ numbered! {
     LETTER_I_SKIPPED: "the letter I skipped",
     CAP_ROW_0_ANY_COLUMN: "a cap's row 0 with another column accepted",
     LATITUDE_FIRST: "refusal 3 before 2",
+    OLD_ENDS: "180 and 90 degrees refused by the writers",
+    UNIT_TOO_MANY: "one unit past 180 and past 90 degrees accepted by the writers",
+    UNIT_TOO_MANY_BELOW: "one unit past -180 and past -90 degrees accepted by the writers",
+    LAST_UNIT_FOR_180: "180 degrees answered as the last unit before it",
+    POLE_TURNS: "90 degrees answered as -90",
+    POLE_FIRST: "90 degrees moved to longitude 0, before refusal 2",
     PLACE_OFF_BY_ONE: "refusal 7's place off by one",
     WEST_EDGE_POSITIVE: "a west edge at 180 degrees positive",
     BELT_COLUMNS_EASTWARD: "belt columns eastward in the west",
@@ -51,6 +57,10 @@ numbered! {
     INFINITY_NOT_A_NUMBER: "an infinity gets 11",
     MINUS_ZERO_BOX: "a box's zero is -0.0",
     NOT_A_NUMBER_LATE: "refusal 2 before 11",
+    OLD_READING_ENDS: "readings of 180 and 90 degrees refused",
+    FLOOR_IN_RANGE: "readings just above 180 and 90 degrees accepted, by their floors",
+    READING_TURNED: "a reading of 180 degrees handed back as -180",
+    POLE_READ_AT_0: "a reading of 90 degrees moved to longitude 0",
 }
 
 /// Turns one slip on; 0 turns all off.

@@ -6,7 +6,7 @@ mod bits;
 mod radices;
 
 use crate::plane::walk::Walk;
-use crate::plane::{self, refuse_level, refuse_position, within, PlaneCell, LONGITUDE};
+use crate::plane::{self, refuse_level, refuse_position, square, within, PlaneCell, LONGITUDE};
 use crate::refusals::{bad_character, put, refusal, Refusal};
 use crate::slips;
 
@@ -65,7 +65,7 @@ pub fn level_of(length: usize) -> Option<u32> {
     Some(at as u32 + 1)
 }
 
-/// The level 10 code of a square and a layer in their ranges.
+/// The level 10 code of a square and a layer in its range.
 pub fn finest(edition: Edition, (longitude, latitude): (i64, i64), layer: i64) -> [u8; 32] {
     let (flat, high) = (plane::write::finest(longitude, latitude), edition.heights(layer));
     let (mut flat, mut high) = (flat.into_iter(), high.into_iter());
@@ -95,7 +95,7 @@ pub fn write(edition: i64, level: i64, longitude: i64, latitude: i64, layer: i64
     if !within(layer, range) {
         return Err(refusal(4));
     }
-    put(&finest(edition, (longitude, latitude), layer)[..length], line, at)
+    put(&finest(edition, square(longitude, latitude), layer)[..length], line, at)
 }
 
 /// The height characters read so far, of either edition.

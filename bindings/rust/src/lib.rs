@@ -4,6 +4,10 @@
 //! refusal changes no byte of a line that was lent. The work is done by a library whose every function is proved; this crate only
 //! wraps its C interface.
 //!
+//! Longitudes run from -1,327,104,000 to 1,327,104,000 units, -180 to 180 degrees, and latitudes from -663,552,000 to 663,552,000, -90
+//! to 90 degrees: 180 degrees stands for -180, and 90 for the unit south of it at the same longitude. The west of a cell that
+//! is read is never 180 degrees, and its south never 90.
+//!
 //! Space codes have two editions, and the caller names one by its number: 1 is the grid's own, with layers from -1,887,436,800 to
 //! 1,887,436,799; 2 cuts the layer by bits (annex C.14 of the standard), with layers from -2,147,483,648 to 2,147,483,647. Nothing in a
 //! code says its edition.
@@ -25,9 +29,9 @@ use std::fmt;
 pub enum Reason {
     /// level outside 1 to 10
     Level = 1,
-    /// longitude outside its range (either infinity too)
+    /// longitude outside its range, -180 to 180 degrees (either infinity too)
     Longitude = 2,
-    /// latitude outside its range (either infinity too)
+    /// latitude outside its range, -90 to 90 degrees (either infinity too)
     Latitude = 3,
     /// layer outside its range, which is the edition's
     Layer = 4,
@@ -119,7 +123,7 @@ impl std::error::Error for Refusal {}
 pub struct PlaneCell {
     /// 1 to 10.
     pub level: u32,
-    /// The west edge, in the longitude range; the cell runs eastward from it, past 180 degrees if need be.
+    /// The west edge, from -180 degrees up to below 180; the cell runs eastward from it, past 180 if need be.
     pub west: i32,
     /// The south edge.
     pub south: i32,
@@ -179,7 +183,10 @@ fn written(w: raw::HgWritten) -> Result<usize, Refusal> {
 /// let mut line = *b"<.........>";
 /// assert_eq!(hailgully::plane_write(2, -44_236_800, 0, &mut line, 1), Ok(6));
 /// assert_eq!(&line, b"<N30AB0...>");
-/// assert_eq!(hailgully::plane_write(2, 1_327_104_000, 0, &mut line, 1).unwrap_err().reason, hailgully::Reason::Longitude);
+/// // 180 degrees is -180; one unit more is refused.
+/// assert_eq!(hailgully::plane_write(2, 1_327_104_000, 0, &mut line, 1), Ok(6));
+/// assert_eq!(&line, b"<N01AB0...>");
+/// assert_eq!(hailgully::plane_write(2, 1_327_104_001, 0, &mut line, 1).unwrap_err().reason, hailgully::Reason::Longitude);
 /// ```
 pub fn plane_write(level: i64, longitude: i64, latitude: i64, line: &mut [u8], at: usize) -> Result<usize, Refusal> {
     written(raw::lent::plane_write(level, longitude, latitude, line, at))
@@ -265,10 +272,19 @@ pub fn reference_read(code: &[u8], line: &mut [u8], at: usize) -> Result<usize, 
     written(raw::lent::reference_read(code, line, at))
 }
 
-/// Arc-seconds to whole units: the greatest unit not above each reading. Refusals, in order: 11, 2, 3.
+/// Arc-seconds to whole units: the greatest unit not above each reading. Refusals, in order: 11, 2, 3. Readings of 648,000 and 324,000,
+/// 180 and 90 degrees, are the greatest of their ranges; any f64 above is refused, as is any below -648,000 or -324,000.
 ///
 /// ```
-/// assert_eq!(hailgully::arcseconds(-0.0001, 0.5), Ok(hailgully::Units { longitude: -1, latitude: 1024 }));
+/// use hailgully::{arcseconds, plane_write, Reason, Units};
+/// assert_eq!(arcseconds(-0.0001, 0.5), Ok(Units { longitude: -1, latitude: 1024 }));
+/// // A receiver prints 180 degrees east and 90 degrees north.
+/// let at = arcseconds(648_000.0, 324_000.0).unwrap();
+/// assert_eq!(at, Units { longitude: 1_327_104_000, latitude: 663_552_000 });
+/// let mut line = [0; 4];
+/// assert_eq!(plane_write(1, at.longitude.into(), at.latitude.into(), &mut line, 0), Ok(4));
+/// assert_eq!(&line, b"N000");
+/// assert_eq!(arcseconds(648_000.0, 324_000_f64.next_up()).unwrap_err().reason, Reason::Latitude);
 /// ```
 pub fn arcseconds(longitude: f64, latitude: f64) -> Result<Units, Refusal> {
     let u = raw::lent::arcseconds(longitude, latitude);

@@ -3,4 +3,5 @@ pub mod Pattern
 pub mod Number
 pub mod Exact
 pub mod Meaning
+pub mod Ends
 pub mod Theorems

@@ -3,56 +3,67 @@
 use mathlib.Core.Path.{_≡_, refl, sym, ap, ap₂, _∙_, subst}
 use mathlib.Core.Bool.{Bool, true, false, not, _||_}
 use mathlib.Core.Logic.{_⊎_, inl, inr}
-use Prim.Native.Nat.{ℕ, suc, _-_, _*_, _/_, _<_}
+use Prim.Native.Nat.{ℕ, suc, _-_, _*_, _/_, _≤_, _<_}
+use native.Mathlib.Nat.{mul-comm, mul-le-mul-right}
 use native.Mathlib.Omega.{arith}
-use borrow.Author.Tests.{ltb-true}
+use borrow.Author.Tests.{leb-true, leb-false, le-leb}
 use lib.IntN.{ℤ, pos, negsuc, natAbs}
-use lib.Dec.{T, ltb, lit<}
+use lib.Dec.{T, leb, lit<}
 use lib.Ieee.{Float, nan, inf, fin, up, down, isNan}
 use lib.Ieee.Fits.{down-pos}
 use lib.Ieee.Bits.{is-false}
-use Rattle.grid.specs.Units.{HALF, QUARTER, index, side}
-use Rattle.grid.specs.Answers.{Answer, accepted, refused, refusal}
+use Rattle.grid.specs.Units.{HALF, QUARTER, side}
+use Rattle.grid.specs.Answers.{Answer, accepted, refused, refusal, unless}
 use Rattle.grid.proofs.Cut.{clash}
 use Rattle.arcseconds.specs.declared.Units.{Units}
-use Rattle.arcseconds.specs.Readings.{greatestWhole, inRange, readingOf, units, unitsAt, unitsOf, Floors, FloorsIn, Beyond, Why, eleven, two, three, position}
+use Rattle.arcseconds.specs.Readings.{greatestWhole, readingOf, units, unitsAt, unitsOf, Floors, ReadsIn, Beyond, Why, eleven, two, three, position}
 use Rattle.arcseconds.specs.Boxes.{SecondsOf}
-use Rattle.arcseconds.proofs.Whole.{whole-is, whole-only, whole-index}
-use Rattle.arcseconds.proofs.Pattern.{inside, reading-value}
+use Rattle.arcseconds.proofs.Whole.{whole-same, whole-is, whole-index, floor-only, size-within, within-size, times}
 use Rattle.arcseconds.proofs.Number.{decided, is-eleven}
-use Rattle.arcseconds.proofs.Exact.{value-of}
 
 -- ---- one reading
 
+beyond-size : (n b : ℕ) → b < n → n ≤ b → ⊥
+beyond-size n b h l = omega (arith, h, l)
+
 module _ (k H : ℕ) where
-  pub floors-whole : (x : Float) (u : ℤ) → FloorsIn H x u → readingOf k H x ≡ accepted u
-  unfolding readingOf Floors
-  floors-whole nan u f = absurd (f .floors)
-  floors-whole (inf s) u f = absurd (f .floors)
-  floors-whole (fin s m e) u f =
-      ap (inRange k H) (sym (whole-only s (2048 * (m * up e)) (down e) u (down-pos e) (f .floors .0) (f .floors .1))) ∙ inside k H u (f .in-range)
-
-  -- whole units that are the greatest not above a reading, or the refusal
-  ways : (x : Float) → ((u : ℤ) × (readingOf k H x ≡ accepted u) × FloorsIn H x u) ⊎ (readingOf k H x ≡ refused (refusal k 0))
-  unfolding readingOf Floors
-  ways nan = inr refl
-  ways (inf s) = inr refl
-  ways (fin s m e) = go (ltb (index w) H) refl
+  -- its whole units, which are the greatest not above it, where it lies in the range; or the refusal
+  ways : (x : Float) → ((u : ℤ) × (readingOf k H x ≡ accepted u) × ReadsIn H x × Floors x u) ⊎ ((readingOf k H x ≡ refused (refusal k 0)) × Beyond H x)
+  unfolding readingOf Floors ReadsIn
+  ways nan = inr (refl, λ h. h)
+  ways (inf s) = inr (refl, λ h. h)
+  ways (fin s m e) = go (leb n (H * down e)) refl
     where
+      n : ℕ
+      n = 2048 * (m * up e)
+
       w : ℤ
-      w = greatestWhole s (2048 * (m * up e)) (down e)
+      w = greatestWhole s n (down e)
 
-      go : (q : Bool) → ltb (index w) H ≡ q → ((u : ℤ) × (inRange k H w ≡ accepted u) × FloorsIn H (fin s m e) u) ⊎ (inRange k H w ≡ refused (refusal k 0))
-      go true l = inl (w, rw l refl, record { floors = whole-is s (2048 * (m * up e)) (down e) (down-pos e); in-range = ltb-true (index w) H l })
-      go false l = inr (rw l refl)
+      go : (q : Bool) → leb n (H * down e) ≡ q
+          → ((u : ℤ) × (unless (leb n (H * down e)) (refusal k 0) (accepted w) ≡ accepted u) × ReadsIn H (fin s m e) × Floors (fin s m e) u)
+          ⊎ ((unless (leb n (H * down e)) (refusal k 0) (accepted w) ≡ refused (refusal k 0)) × Beyond H (fin s m e))
+      go true l = inl (w, rw l refl, size-within s n (H * down e) (leb-true n (H * down e) l), whole-is s n (down e) (down-pos e))
+      go false l = inr (rw l refl, λ h. beyond-size n (H * down e) (leb-false n (H * down e) l) (within-size s n (H * down e) (h .0) (h .1)))
 
-  pub outside-beyond : (x : Float) → readingOf k H x ≡ refused (refusal k 0) → Beyond H x
-  outside-beyond x h u f = let e = floors-whole x u f in clash (cc)
+  -- a reading in the range has whole units
+  reads-some : (x : Float) → ReadsIn H x → (u : ℤ) × (readingOf k H x ≡ accepted u)
+  reads-some x r = elim (ways x) [
+    | inl f ↦ (f .0, f .1)
+    | inr f ↦ absurd (f .1 r)
+  ]
 
-  pub beyond-outside : (x : Float) → Beyond H x → readingOf k H x ≡ refused (refusal k 0)
+  -- and they are no others
+  pub reads-floor : (x : Float) (u : ℤ) → ReadsIn H x → Floors x u → readingOf k H x ≡ accepted u
+  reads-floor x u r g = elim (ways x) [
+    | inl f ↦ f .1 ∙ ap accepted (floor-only x (f .0) u (f .3) g)
+    | inr f ↦ absurd (f .1 r)
+  ]
+
+  beyond-outside : (x : Float) → Beyond H x → readingOf k H x ≡ refused (refusal k 0)
   beyond-outside x b = elim (ways x) [
-    | inl f ↦ absurd (b (f .0) (f .2))
-    | inr f ↦ f
+    | inl f ↦ absurd (b (f .2))
+    | inr f ↦ f .0
   ]
 
 -- ---- both readings
@@ -74,22 +85,21 @@ unfolding unitsAt
 why x y = go (isNan x || isNan y) refl (ways 2 HALF x) (ways 3 QUARTER y)
   where
     go : (q : Bool) → (isNan x || isNan y) ≡ q
-        → ((u : ℤ) × (readingOf 2 HALF x ≡ accepted u) × FloorsIn HALF x u) ⊎ (readingOf 2 HALF x ≡ refused (refusal 2 0))
-        → ((v : ℤ) × (readingOf 3 QUARTER y ≡ accepted v) × FloorsIn QUARTER y v) ⊎ (readingOf 3 QUARTER y ≡ refused (refusal 3 0))
+        → ((u : ℤ) × (readingOf 2 HALF x ≡ accepted u) × ReadsIn HALF x × Floors x u) ⊎ ((readingOf 2 HALF x ≡ refused (refusal 2 0)) × Beyond HALF x)
+        → ((v : ℤ) × (readingOf 3 QUARTER y ≡ accepted v) × ReadsIn QUARTER y × Floors y v) ⊎ ((readingOf 3 QUARTER y ≡ refused (refusal 3 0)) × Beyond QUARTER y)
         → Why x y (unitsOf x y)
     go true e f g = rw (is-eleven x y (subst T (sym e) tt)) (eleven (subst T (sym e) tt))
-    go false e (inr f) g = rw (decided x y false _ _ e f refl) (two (subst (λ (q : Bool). T (not q)) (sym e) tt) (outside-beyond 2 HALF x f))
-    go false e (inl (u, f, i)) (inr g) =
-        rw (decided x y false _ _ e f g) (three (subst (λ (q : Bool). T (not q)) (sym e) tt) i (outside-beyond 3 QUARTER y g))
-    go false e (inl (u, f, i)) (inl (v, g, j)) = rw (both-whole x y u v f g) (position i j)
+    go false e (inr (f, b)) g = rw (decided x y false _ _ e f refl) (two (subst (λ (q : Bool). T (not q)) (sym e) tt) b)
+    go false e (inl (u, f, i, l)) (inr (g, b)) = rw (decided x y false _ _ e f g) (three (subst (λ (q : Bool). T (not q)) (sym e) tt) i b)
+    go false e (inl (u, f, i, l)) (inl (v, g, j, m)) = rw (both-whole x y u v f g) (position i j l m)
 
 -- and what has its reason is answered
 pub so : (x y : Float) (a : Answer Units) → Why x y a → unitsOf x y ≡ a
 unfolding unitsAt
 so x y _ (eleven t) = is-eleven x y t
 so x y _ (two t b) = decided x y false (refused (refusal 2 0)) _ (is-false _ t) (beyond-outside 2 HALF x b) refl
-so x y _ (three {u} t f b) = decided x y false (accepted u) (refused (refusal 3 0)) (is-false _ t) (floors-whole 2 HALF x u f) (beyond-outside 3 QUARTER y b)
-so x y _ (position {u} {v} f g) = both-whole x y u v (floors-whole 2 HALF x u f) (floors-whole 3 QUARTER y v g)
+so x y _ (three t r b) = let f = reads-some 2 HALF x r in decided x y false (accepted (f .0)) (refused (refusal 3 0)) (is-false _ t) (f .1) (beyond-outside 3 QUARTER y b)
+so x y _ (position {u} {v} i j f g) = both-whole x y u v (reads-floor 2 HALF x u i f) (reads-floor 3 QUARTER y v j g)
 
 -- ---- an exact u / 2048 reads as u
 
@@ -103,6 +113,13 @@ whole-back : (u : ℤ) → greatestWhole (not (side u)) (2048 * natAbs u) 2048 �
 whole-back (pos n) = ap pos (whole-part n)
 whole-back (negsuc n) = whole-index true (2048 * suc n) 2048 (omega arith) ∙ ap negsuc (before-whole n)
 
-pub seconds-whole : (k H : ℕ) (u : ℤ) (x : Float) → index u < H → SecondsOf u x → readingOf k H x ≡ accepted u
-seconds-whole k H u x h v =
-    reading-value k H x (not (side u)) (natAbs u) 2048 (lit< tt) (value-of u x v) ∙ ap (inRange k H) (whole-back u) ∙ inside k H u h
+pub seconds-whole : (k H : ℕ) (u : ℤ) (x : Float) → natAbs u ≤ H → SecondsOf u x → readingOf k H x ≡ accepted u
+unfolding SecondsOf readingOf
+seconds-whole k H u nan h v = absurd v
+seconds-whole k H u (inf s) h v = absurd v
+seconds-whole k H u (fin s m e) h v =
+    ap (λ (t : Bool). unless t (refusal k 0) (accepted (greatestWhole s (2048 * (m * up e)) (down e)))) (le-leb (2048 * (m * up e)) (H * down e) reach)
+    ∙ ap accepted (ap (λ (t : Bool). greatestWhole t (2048 * (m * up e)) (down e)) (v .0) ∙ whole-same (not (side u)) (2048 * (m * up e)) (down e) (2048 * natAbs u) 2048 (down-pos e) (lit< tt) (times (m * up e) (down e) (natAbs u) 2048 (v .1)) ∙ whole-back u)
+  where
+    reach : 2048 * (m * up e) ≤ H * down e
+    reach = subst (λ (n : ℕ). n ≤ H * down e) (sym (mul-comm 2048 (m * up e) ∙ v .1)) (mul-le-mul-right (down e) h)

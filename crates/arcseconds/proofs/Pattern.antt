@@ -39,33 +39,31 @@ use mir.ValLaws.{toZ-pos, toZ-ofZ}
 use Rattle.grid.specs.Units.{index, unit}
 use Rattle.grid.proofs.PlaneLaws.{index-unit}
 use Rattle.grid.specs.Answers.{Answer, accepted, refused, refusal, unless}
-use Rattle.arcseconds.specs.Readings.{greatestWhole, inRange, readingOf}
-use Rattle.arcseconds.proofs.Whole.{whole-same, whole-tiny, whole-index}
+use Rattle.arcseconds.specs.Readings.{greatestWhole}
+use Rattle.arcseconds.specs.inner.Axis.{indexBelow, indexedOf}
+use Rattle.arcseconds.proofs.Whole.{whole-same, whole-tiny, whole-index, times}
 
 -- ---- a number in a range, and one outside it
 
-pub inside : (k H : ℕ) (u : ℤ) → index u < H → inRange k H u ≡ accepted u
+pub inside : (k H : ℕ) (u : ℤ) → index u < H → indexBelow k H u ≡ accepted u
 inside k H u h = ap (λ (t : Bool). unless t (refusal k 0) (accepted u)) (lt-ltb (index u) H h)
 
-pub beyond : (k H : ℕ) (u : ℤ) → H ≤ index u → inRange k H u ≡ refused (refusal k 0)
+pub beyond : (k H : ℕ) (u : ℤ) → H ≤ index u → indexBelow k H u ≡ refused (refusal k 0)
 beyond k H u h = ap (λ (t : Bool). unless t (refusal k 0) (accepted u)) (le-ltb (index u) H h)
 
 -- ---- the reading depends on the sign and the value alone
 
 -- a reading of size a / c arc-seconds, in units
 abbrev pub readAt : ℕ → ℕ → Bool → ℕ → ℕ → Answer ℤ
-readAt k half s a c = inRange k half (greatestWhole s (2048 * a) c)
+readAt k half s a c = indexBelow k half (greatestWhole s (2048 * a) c)
 
-times : (n d k c : ℕ) → n * c ≡ k * d → 2048 * n * c ≡ 2048 * k * d
-times n d k c e = mul-assoc 2048 n c ∙ ap (λ (x : ℕ). 2048 * x) e ∙ sym (mul-assoc 2048 k d)
-
-pub reading-value : (k h : ℕ) (x : Float) (s : Bool) (a c : ℕ) → 0 < c → HasValue x s a c → readingOf k h x ≡ readAt k h s a c
-unfolding readingOf
+pub reading-value : (k h : ℕ) (x : Float) (s : Bool) (a c : ℕ) → 0 < c → HasValue x s a c → indexedOf k h x ≡ readAt k h s a c
+unfolding indexedOf
 reading-value k h nan s a c C v = absurd v
 reading-value k h (inf t) s a c C v = absurd v
 reading-value k h (fin t m e) s a c C v =
     ap (λ (r : Bool). readAt k h r (m * up e) (down e)) (v .0)
-    ∙ ap (inRange k h) (whole-same s (2048 * (m * up e)) (down e) (2048 * a) c (down-pos e) C (times (m * up e) (down e) a c (v .1)))
+    ∙ ap (indexBelow k h) (whole-same s (2048 * (m * up e)) (down e) (2048 * a) c (down-pos e) C (times (m * up e) (down e) a c (v .1)))
 
 -- ---- a pattern b: its sign, its exponent's field, and its outward index
 
@@ -138,8 +136,8 @@ less b h = go (sign b) refl
 -- ---- for one half, above 0 and below 2 ^ 31
 
 module _ (k H : ℕ) (some : 0 < H) (few : H < 2 ^ 31) where
-  zero-reads : (s : Bool) → readingOf k H (ofFields binary64 s 0 0) ≡ inRange k H (pos 0)
-  unfolding readingOf ofFields odd
+  zero-reads : (s : Bool) → indexedOf k H (ofFields binary64 s 0 0) ≡ indexBelow k H (pos 0)
+  unfolding indexedOf ofFields odd
   zero-reads true = refl
   zero-reads false = refl
 
@@ -147,15 +145,15 @@ module _ (k H : ℕ) (some : 0 < H) (few : H < 2 ^ 31) where
   no-field n h = omega arith
 
   -- zero, of either sign
-  pub reads-zero : (b : ℕ) → b % 2 ^ 63 ≡ 0 → accepted (pos 0) ≡ readingOf k H (ofBits binary64 b)
+  pub reads-zero : (b : ℕ) → b % 2 ^ 63 ≡ 0 → accepted (pos 0) ≡ indexedOf k H (ofBits binary64 b)
   reads-zero b h =
-      sym (ap (readingOf k H) (ofBits-is b ∙ ap₂ (λ (z t : ℕ). ofFields binary64 (sign b) z t) (no-field (b % 2 ^ 63) h) (sym (digits-of b) ∙ ap (λ (n : ℕ). n % 2 ^ 52) h)) ∙ zero-reads (sign b) ∙ inside k H (pos 0) some)
+      sym (ap (indexedOf k H) (ofBits-is b ∙ ap₂ (λ (z t : ℕ). ofFields binary64 (sign b) z t) (no-field (b % 2 ^ 63) h) (sym (digits-of b) ∙ ap (λ (n : ℕ). n % 2 ^ 52) h)) ∙ zero-reads (sign b) ∙ inside k H (pos 0) some)
 
   -- the value under a field of 1 to 2046, and under 0
-  normal-value : (s : Bool) (j t : ℕ) → suc j < 2047 → readingOf k H (ofFields binary64 s (suc j) t) ≡ readAt k H s ((2 ^ 52 + t) * 2 ^ j) (2 ^ 1074)
-  normal-value s j t h = ap (readingOf k H) (under-top s j t h) ∙ reading-value k H (odd 53 s (2 ^ 52 + t) j 1074) s ((2 ^ 52 + t) * 2 ^ j) (2 ^ 1074) (pow-pos 1074) (odd-sign 53 s (2 ^ 52 + t) j 1074)
+  normal-value : (s : Bool) (j t : ℕ) → suc j < 2047 → indexedOf k H (ofFields binary64 s (suc j) t) ≡ readAt k H s ((2 ^ 52 + t) * 2 ^ j) (2 ^ 1074)
+  normal-value s j t h = ap (indexedOf k H) (under-top s j t h) ∙ reading-value k H (odd 53 s (2 ^ 52 + t) j 1074) s ((2 ^ 52 + t) * 2 ^ j) (2 ^ 1074) (pow-pos 1074) (odd-sign 53 s (2 ^ 52 + t) j 1074)
 
-  small-value : (s : Bool) (t : ℕ) → readingOf k H (ofFields binary64 s 0 t) ≡ readAt k H s (t * 2 ^ 0) (2 ^ 1074)
+  small-value : (s : Bool) (t : ℕ) → indexedOf k H (ofFields binary64 s 0 t) ≡ readAt k H s (t * 2 ^ 0) (2 ^ 1074)
   unfolding ofFields
   small-value s t = reading-value k H (odd 53 s t 0 1074) s (t * 2 ^ 0) (2 ^ 1074) (pow-pos 1074) (odd-sign 53 s t 0 1074)
 
@@ -174,66 +172,66 @@ module _ (k H : ℕ) (some : 0 < H) (few : H < 2 ^ 31) where
       up-by : (a c : ℕ) → 1048576 * c ≤ a → 2147483648 * c ≤ 2048 * a
       up-by a c h = omega arith
 
-  at-top : (s : Bool) (t : ℕ) → readingOf k H (ofFields binary64 s 2047 t) ≡ refused (refusal k 0)
-  unfolding readingOf ofFields
+  at-top : (s : Bool) (t : ℕ) → indexedOf k H (ofFields binary64 s 2047 t) ≡ refused (refusal k 0)
+  unfolding indexedOf ofFields
   at-top s t = go (eqb t 0)
     where
-      go : (q : Bool) → readingOf k H (cond q (inf s) nan) ≡ refused (refusal k 0)
+      go : (q : Bool) → indexedOf k H (cond q (inf s) nan) ≡ refused (refusal k 0)
       go true = refl
       go false = refl
 
-  fields-far : (s : Bool) (z t : ℕ) → z < 2048 → 1043 ≤ z → readingOf k H (ofFields binary64 s z t) ≡ refused (refusal k 0)
+  fields-far : (s : Bool) (z t : ℕ) → z < 2048 → 1043 ≤ z → indexedOf k H (ofFields binary64 s z t) ≡ refused (refusal k 0)
   fields-far s zero t Z h = absurd (omega arith)
   fields-far s (suc j) t Z h = go (eq-or-lt-of-le (le-of-suc-le-suc Z))
     where
       pred : 1043 ≤ suc j → 1042 ≤ j
       pred h = omega arith
 
-      go : (suc j ≡ 2047) ⊎ (suc j < 2047) → readingOf k H (ofFields binary64 s (suc j) t) ≡ refused (refusal k 0)
-      go (inl e) = ap (λ (z : ℕ). readingOf k H (ofFields binary64 s z t)) e ∙ at-top s t
+      go : (suc j ≡ 2047) ⊎ (suc j < 2047) → indexedOf k H (ofFields binary64 s (suc j) t) ≡ refused (refusal k 0)
+      go (inl e) = ap (λ (z : ℕ). indexedOf k H (ofFields binary64 s z t)) e ∙ at-top s t
       go (inr l) = normal-value s j t l ∙ read-far s ((2 ^ 52 + t) * 2 ^ j) (2 ^ 1074) (pow-pos 1074) (far-enough t j (pred h))
 
-  pub reads-far : (b : ℕ) → 1043 ≤ field b → refused (refusal k 0) ≡ readingOf k H (ofBits binary64 b)
-  reads-far b h = sym (ap (readingOf k H) (ofBits-is b) ∙ fields-far (sign b) (field b) (b % 2 ^ 52) (field-lt b) h)
+  pub reads-far : (b : ℕ) → 1043 ≤ field b → refused (refusal k 0) ≡ indexedOf k H (ofBits binary64 b)
+  reads-far b h = sym (ap (indexedOf k H) (ofBits-is b) ∙ fields-far (sign b) (field b) (b % 2 ^ 52) (field-lt b) h)
 
   -- the rest: the digits, under a leading one, over 2 ^ (1064 - field)
-  normal-near : (s : Bool) (j t : ℕ) → suc j < 1043 → readingOf k H (ofFields binary64 s (suc j) t) ≡ inRange k H (greatestWhole s (2 ^ 52 + t) (2 ^ (1064 - suc j)))
+  normal-near : (s : Bool) (j t : ℕ) → suc j < 1043 → indexedOf k H (ofFields binary64 s (suc j) t) ≡ indexBelow k H (greatestWhole s (2 ^ 52 + t) (2 ^ (1064 - suc j)))
   normal-near s j t h =
       let q = 2 ^ 52 + t in
       normal-value s j t (wider j h)
-      ∙ ap (inRange k H) (whole-same s (2048 * (q * 2 ^ j)) (2 ^ 1074) q (2 ^ (1064 - suc j)) (pow-pos 1074) (pow-pos (1064 - suc j)) (cross q j h))
+      ∙ ap (indexBelow k H) (whole-same s (2048 * (q * 2 ^ j)) (2 ^ 1074) q (2 ^ (1064 - suc j)) (pow-pos 1074) (pow-pos (1064 - suc j)) (cross q j h))
     where
       wider : (j : ℕ) → suc j < 1043 → suc j < 2047
       wider j h = omega arith
 
-  small-near : (s : Bool) (t : ℕ) → t < 2 ^ 52 → 0 < t → readingOf k H (ofFields binary64 s 0 t) ≡ inRange k H (greatestWhole s (2 ^ 52 + t) (2 ^ 1064))
+  small-near : (s : Bool) (t : ℕ) → t < 2 ^ 52 → 0 < t → indexedOf k H (ofFields binary64 s 0 t) ≡ indexBelow k H (greatestWhole s (2 ^ 52 + t) (2 ^ 1064))
   small-near s t T52 P =
       let T0 : t * 2 ^ 0 < 2 ^ 52 = subst (λ (x : ℕ). x < 2 ^ 52) (sym (mul-one t)) T52 in
       let P0 : 0 < t * 2 ^ 0 = subst (λ (x : ℕ). 0 < x) (sym (mul-one t)) P in
       small-value s t
-      ∙ ap (inRange k H) (whole-tiny s (2048 * (t * 2 ^ 0)) (2 ^ 52 + t) (2 ^ 1074) (2 ^ 1064) (mul-pos (lit< tt) P0) (with-some t)
+      ∙ ap (indexBelow k H) (whole-tiny s (2048 * (t * 2 ^ 0)) (2 ^ 52 + t) (2 ^ 1074) (2 ^ 1064) (mul-pos (lit< tt) P0) (with-some t)
       (lt-of-lt-of-le (mul-lt-left (t * 2 ^ 0) T0) (lit≤ tt)) (lt-of-lt-of-le (with-lead t T52) (lit≤ tt)))
 
-  fields-near : (s : Bool) (z t : ℕ) → t < 2 ^ 52 → z < 1043 → (z ≡ 0 → 0 < t) → readingOf k H (ofFields binary64 s z t) ≡ inRange k H (greatestWhole s (2 ^ 52 + t) (2 ^ (1064 - z)))
+  fields-near : (s : Bool) (z t : ℕ) → t < 2 ^ 52 → z < 1043 → (z ≡ 0 → 0 < t) → indexedOf k H (ofFields binary64 s z t) ≡ indexBelow k H (greatestWhole s (2 ^ 52 + t) (2 ^ (1064 - z)))
   fields-near s zero t T52 h p = small-near s t T52 (p refl)
   fields-near s (suc j) t T52 h p = normal-near s j t h
 
-  pub reads-near : (b : ℕ) → b < 2 * 2 ^ 63 → (b % 2 ^ 63 ≡ 0 → ⊥) → field b < 1043 → inRange k H (unit (not (sign b)) (outward b)) ≡ readingOf k H (ofBits binary64 b)
+  pub reads-near : (b : ℕ) → b < 2 * 2 ^ 63 → (b % 2 ^ 63 ≡ 0 → ⊥) → field b < 1043 → indexBelow k H (unit (not (sign b)) (outward b)) ≡ indexedOf k H (ofBits binary64 b)
   reads-near b l h z =
-      sym (ap (readingOf k H) (ofBits-is b)
+      sym (ap (indexedOf k H) (ofBits-is b)
       ∙ fields-near (sign b) (field b) (b % 2 ^ 52) (mod-lt b (pow-pos 52)) z (some-digits b h)
-      ∙ ap (inRange k H) (whole-index (sign b) (2 ^ 52 + b % 2 ^ 52) (2 ^ (1064 - field b)) (with-some (b % 2 ^ 52)))
-      ∙ ap (λ (q : ℕ). inRange k H (unit (not (sign b)) (q / 2 ^ (1064 - field b)))) (less b l))
+      ∙ ap (indexBelow k H) (whole-index (sign b) (2 ^ 52 + b % 2 ^ 52) (2 ^ (1064 - field b)) (with-some (b % 2 ^ 52)))
+      ∙ ap (λ (q : ℕ). indexBelow k H (unit (not (sign b)) (q / 2 ^ (1064 - field b)))) (less b l))
 
   -- ---- what the body hands back: r is the outward index, below half or not
 
-  pub out : (s : Bool) (r : ℕ) → H ≤ r → refused (refusal k 0) ≡ inRange k H (unit s r)
+  pub out : (s : Bool) (r : ℕ) → H ≤ r → refused (refusal k 0) ≡ indexBelow k H (unit s r)
   out s r h = sym (beyond k H (unit s r) (subst (λ (k : ℕ). H ≤ k) (sym (index-unit s r)) h))
 
-  within : (s : Bool) (r : ℕ) → r < H → accepted (unit s r) ≡ inRange k H (unit s r)
+  within : (s : Bool) (r : ℕ) → r < H → accepted (unit s r) ≡ indexBelow k H (unit s r)
   within s r h = sym (inside k H (unit s r) (subst (λ (k : ℕ). k < H) (sym (index-unit s r)) h))
 
-  pub east : (r : ℕ) → r < H → accepted (toZ w32 r) ≡ inRange k H (pos r)
+  pub east : (r : ℕ) → r < H → accepted (toZ w32 r) ≡ indexBelow k H (pos r)
   east r h = ap accepted (toZ-pos w32 r (lt-trans h few)) ∙ within true r h
 
   step-down : (k : ℕ) → negsuc 0 -ℤ pos k ≡ negsuc k
@@ -246,5 +244,5 @@ module _ (k H : ℕ) (some : 0 < H) (few : H < 2 ^ 31) where
   pub minus-fits : (r : ℕ) → r < H → SFits w32 (negsuc 0 -ℤ toZ w32 r)
   minus-fits r h = subst (λ (z : ℤ). SFits w32 z) (sym (is r h)) (record { sfits = lt-trans h few })
 
-  pub west : (r : ℕ) → r < H → accepted (toZ w32 (ofZ w32 (negsuc 0 -ℤ toZ w32 r))) ≡ inRange k H (negsuc r)
+  pub west : (r : ℕ) → r < H → accepted (toZ w32 (ofZ w32 (negsuc 0 -ℤ toZ w32 r))) ≡ indexBelow k H (negsuc r)
   west r h = ap accepted (toZ-ofZ w32 (negsuc 0 -ℤ toZ w32 r) (minus-fits r h) ∙ is r h) ∙ within false r h

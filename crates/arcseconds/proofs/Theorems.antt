@@ -5,9 +5,10 @@ use mathlib.Core.Path.{_≡_, refl, sym, ap, ap₂, _∙_, subst}
 use mathlib.Core.Bool.{Bool}
 use mathlib.Core.List.{List}
 use mathlib.Core.Logic.{_↔_}
-use Prim.Native.Nat.{ℕ, _*_, _<_}
-use lib.IntN.{ℤ, pos, negsuc}
-use lib.Ieee.{Float, nan, inf, fin, binary64, up, down, isNan, ofBits}
+use Prim.Native.Nat.{ℕ, _*_, _≤_, _<_}
+use native.Mathlib.Omega.{arith}
+use lib.IntN.{ℤ, pos, negsuc, natAbs}
+use lib.Ieee.{Float, fin, binary64, up, down, isNan, ofBits}
 use lib.Ieee.Fits.{down-pos}
 use Rattle.grid.specs.declared.Cell.{Cell}
 use Rattle.grid.specs.Units.{HALF, QUARTER, index}
@@ -23,7 +24,7 @@ use Rattle.arcseconds.specs.declared.BoxRead.{BoxRead}
 use Rattle.arcseconds.specs.declared.BoxRead.the-variants.{Found, Refused}
 use Rattle.arcseconds.specs.Readings.{greatestWhole, readingOf, units, unitsAt, unitsOf, unitsRead, Floors, Why}
 use Rattle.arcseconds.specs.Boxes.{SecondsOf, BoxOf, BoxSays}
-use Rattle.arcseconds.proofs.Whole.{whole-is, whole-only}
+use Rattle.arcseconds.proofs.Whole.{whole-is, floor-only}
 use Rattle.arcseconds.proofs.Exact.{one-exactly}
 use Rattle.arcseconds.proofs.Meaning.{both-whole, why, so, seconds-whole}
 
@@ -36,12 +37,7 @@ a-floor s m e = (greatestWhole s (2048 * (m * up e)) (down e), whole-is s (2048 
 
 -- and no others
 pub one-floor : (x : Float) (u v : ℤ) → Floors x u → Floors x v → u ≡ v
-unfolding Floors
-one-floor nan u v f g = absurd f
-one-floor (inf s) u v f g = absurd f
-one-floor (fin s m e) u v f g =
-    whole-only s (2048 * (m * up e)) (down e) u (down-pos e) (f .0) (f .1)
-    ∙ sym (whole-only s (2048 * (m * up e)) (down e) v (down-pos e) (g .0) (g .1))
+one-floor x u v f g = floor-only x u v f g
 
 -- ---- what is answered when
 
@@ -51,9 +47,14 @@ answered-exactly-when x y a = (λ h. subst (Why x y) h (why x y), so x y a)
 
 -- ---- the box reads back
 
--- exact arc-seconds of units in the ranges read as those units
-pub units-back : (u v : ℤ) (x y : Float) → index u < HALF → index v < QUARTER → SecondsOf u x → SecondsOf v y → unitsOf x y ≡ accepted (units u v)
+-- exact arc-seconds of a number in its range read as that number, the ends 648,000 and 324,000 too
+pub units-back : (u v : ℤ) (x y : Float) → natAbs u ≤ HALF → natAbs v ≤ QUARTER → SecondsOf u x → SecondsOf v y → unitsOf x y ≡ accepted (units u v)
 units-back u v x y a b p q = both-whole x y u v (seconds-whole 2 HALF u x a p) (seconds-whole 3 QUARTER v y b q)
+
+-- a unit on the globe is a number of its range
+on-globe : (half : ℕ) (u : ℤ) → index u < half → natAbs u ≤ half
+on-globe half (pos n) h = omega (arith, h)
+on-globe half (negsuc n) h = h
 
 -- a box that a plane code gets has the west and south of the code's cell, which read back as the same units
 pub box-back : (w : List ℕ) (b : ArcBox) → BoxSays (cellOf w) (Found b) → (c : Cell) × (cellOf w ≡ accepted c) × (unitsOf (b .west) (b .south) ≡ accepted (units (c .west) (c .south)))
@@ -63,7 +64,7 @@ box-back w b h = go (cellOf w) refl h
     go : (a : Answer Cell) → cellOf w ≡ a → BoxSays a (Found b) → (c : Cell) × (cellOf w ≡ accepted c) × (unitsOf (b .west) (b .south) ≡ accepted (units (c .west) (c .south)))
     go (accepted c) e v =
         let i = plane-in-ranges w c e in
-        (c, e, units-back (c .west) (c .south) (b .west) (b .south) (i .west-in) (i .rows-in .begins-in) (v .west-is .value) (v .south-is .value))
+        (c, e, units-back (c .west) (c .south) (b .west) (b .south) (on-globe HALF (c .west) (i .west-in)) (on-globe QUARTER (c .south) (i .rows-in .begins-in)) (v .west-is .value) (v .south-is .value))
     go (refused r) e v = absurd v
 
 -- ---- each contract allows one result
@@ -105,14 +106,32 @@ pub one-below : unitsOf (ofBits binary64 0xbf40_0000_0000_0000) (ofBits binary64
 unfolding unitsOf readingOf unitsAt ofBits isNan
 one-below = refl
 
--- -648000 and -324000 are the least units, and 648000 is outside
+-- -648000 and -324000 are the least numbers, 648000 and 324000 the greatest
 pub least-corner : unitsOf (ofBits binary64 0xc123_c680_0000_0000) (ofBits binary64 0xc113_c680_0000_0000) ≡ accepted (units (negsuc 1327103999) (negsuc 663551999))
 unfolding unitsOf readingOf unitsAt ofBits isNan
 least-corner = refl
 
-pub edge-outside : unitsOf (ofBits binary64 0x4123_c680_0000_0000) (ofBits binary64 0x4113_c680_0000_0000) ≡ refused (refusal 2 0)
+pub greatest-corner : unitsOf (ofBits binary64 0x4123_c680_0000_0000) (ofBits binary64 0x4113_c680_0000_0000) ≡ accepted (units (pos 1327104000) (pos 663552000))
 unfolding unitsOf readingOf unitsAt ofBits isNan
-edge-outside = refl
+greatest-corner = refl
+
+-- the f64 next above 648000 and next above 324000 are outside, though the greatest whole units not above them are these numbers
+pub above-longitude : unitsOf (ofBits binary64 0x4123_c680_0000_0001) (ofBits binary64 0x4113_c680_0000_0001) ≡ refused (refusal 2 0)
+unfolding unitsOf readingOf unitsAt ofBits isNan
+above-longitude = refl
+
+pub above-latitude : unitsOf (ofBits binary64 0x4123_c680_0000_0000) (ofBits binary64 0x4113_c680_0000_0001) ≡ refused (refusal 3 0)
+unfolding unitsOf readingOf unitsAt ofBits isNan
+above-latitude = refl
+
+-- and so are those next below -648000 and -324000
+pub below-longitude : unitsOf (ofBits binary64 0xc123_c680_0000_0001) (ofBits binary64 0xc113_c680_0000_0001) ≡ refused (refusal 2 0)
+unfolding unitsOf readingOf unitsAt ofBits isNan
+below-longitude = refl
+
+pub below-latitude : unitsOf (ofBits binary64 0xc123_c680_0000_0000) (ofBits binary64 0xc113_c680_0000_0001) ≡ refused (refusal 3 0)
+unfolding unitsOf readingOf unitsAt ofBits isNan
+below-latitude = refl
 
 -- an infinite longitude gets 2, and 11 goes before it
 pub infinite : unitsOf (ofBits binary64 0xfff0_0000_0000_0000) (ofBits binary64 0) ≡ refused (refusal 2 0)

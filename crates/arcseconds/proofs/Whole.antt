@@ -10,6 +10,7 @@ use native.Mathlib.Nat.{
   zero-lt-suc,
   zero-mul,
   mul-pos,
+  mul-assoc,
   mul-right-comm,
   mul-le-mul-right,
   mul-lt-mul-of-pos-right,
@@ -26,11 +27,16 @@ use native.Mathlib.Omega.{arith}
 use lib.IntN.{ℤ, pos, negsuc, negℤ, sucℤ, _*ℤ_, pos-*ℤ-pos, negsuc-*ℤ-pos}
 use lib.Signed.{_≤ℤ_, _<ℤ_}
 use lib.Dec.{leb→le, ltb→lt, le→leb, lt→ltb}
+use lib.Ieee.{Float, nan, inf, fin, up, down}
+use lib.Ieee.Fits.{down-pos}
 use lib.Ieee.Nearest.{div-same}
 use Rattle.grid.specs.Units.{unit}
-use Rattle.arcseconds.specs.Readings.{greatestWhole, signed}
+use Rattle.arcseconds.specs.Readings.{greatestWhole, signed, Floors}
 
 -- ---- equal fractions
+
+pub times : (n d k c : ℕ) → n * c ≡ k * d → 2048 * n * c ≡ 2048 * k * d
+times n d k c e = mul-assoc 2048 n c ∙ ap (λ (x : ℕ). 2048 * x) e ∙ sym (mul-assoc 2048 k d)
 
 below-suc : (a n : ℕ) → a < suc n → a ≤ n
 below-suc a n h = omega arith
@@ -148,3 +154,28 @@ whole-only true (suc n) d (pos k) D a b = absurd (a .le)
 whole-only true (suc n) d (negsuc k) D a b =
     ap negsuc (sym (div-eq-of-lt-le d (le-of-suc-le-suc (from-lt-neg n (k * d) (subst (λ (z : ℤ). negsuc n <ℤ z) (neg-times k d) b)))
     (subst (λ (x : ℕ). suc n ≤ x) (sym (up-one k d)) (from-le-neg (suc k * d) n a))))
+
+-- ---- the floor of a reading is the only one
+
+pub floor-only : (x : Float) (u v : ℤ) → Floors x u → Floors x v → u ≡ v
+unfolding Floors
+floor-only nan u v f g = absurd f
+floor-only (inf s) u v f g = absurd f
+floor-only (fin s m e) u v f g =
+    whole-only s (2048 * (m * up e)) (down e) u (down-pos e) (f .0) (f .1)
+    ∙ sym (whole-only s (2048 * (m * up e)) (down e) v (down-pos e) (g .0) (g .1))
+
+-- ---- a size of at most b lies from -b to b, on either side
+
+neg-le-pos : (b n : ℕ) → negℤ (pos b) ≤ℤ pos n
+neg-le-pos zero n = le-pos 0 n zero-le
+neg-le-pos (suc b) n = record { le = tt }
+
+pub size-within : (s : Bool) (n b : ℕ) → n ≤ b → (negℤ (pos b) ≤ℤ signed s n) × (signed s n ≤ℤ pos b)
+size-within false n b h = (neg-le-pos b n, le-pos n b h)
+size-within true n b h = (le-neg b n h, neg-le-pos n b)
+
+pub within-size : (s : Bool) (n b : ℕ) → negℤ (pos b) ≤ℤ signed s n → signed s n ≤ℤ pos b → n ≤ b
+within-size false n b l u = leb→le n b (u .le)
+within-size true zero b l u = zero-le
+within-size true (suc n) b l u = from-le-neg b n l

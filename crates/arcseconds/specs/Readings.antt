@@ -1,13 +1,14 @@
--- Arc-second readings in whole units (document 01, "Arc-seconds"; refusals 11, 2, 3).
+-- Arc-second readings in whole units (document 01, "Arc-seconds", with the ends of document 02's Wish 2; refusals 11, 2, 3).
 -- A finite f64 is its sign s, whole significand m and power of two e: m * 2 ^ e, below 0 where s is true; 2 ^ e is `up e` / `down e`.
 -- Assumes nothing.
 use mathlib.Core.Bool.{Bool, true, false, not, _||_}
-use Prim.Native.Nat.{ℕ, zero, suc, _*_, _/_, _<_}
+use Prim.Native.Nat.{ℕ, zero, suc, _*_, _/_}
 use lib.IntN.{ℤ, pos, negsuc, negℤ, sucℤ, _*ℤ_}
 use lib.Signed.{_≤ℤ_, _<ℤ_}
-use lib.Dec.{T, ltb}
+use lib.Dec.{T}
 use lib.Ieee.{Float, nan, inf, fin, up, down, isNan}
-use Rattle.grid.specs.Units.{HALF, QUARTER, index}
+use Rattle.grid.specs.Units.{HALF, QUARTER}
+use Rattle.grid.specs.Ends.{inRange}
 use Rattle.grid.specs.Answers.{Answer, accepted, refused, refusal, unless, andThen}
 use Rattle.arcseconds.specs.declared.Units.{Units}
 use Rattle.arcseconds.specs.declared.UnitsRead.{UnitsRead}
@@ -19,15 +20,12 @@ greatestWhole false n d = pos (n / d)
 greatestWhole true zero d = pos 0
 greatestWhole true (suc n) d = negsuc (n / d)
 
--- a unit number in a range that ends half units either way from 0, or refusal n
-abbrev pub inRange : ℕ → ℕ → ℤ → Answer ℤ
-inRange n half u = unless (ltb (index u) half) (refusal n 0) (accepted u)
-
--- one reading: the greatest whole units not above 2048 times it, or refusal n; either infinity is outside every range
+-- one reading: the greatest whole units not above 2048 times it, or refusal n where the reading itself lies outside the range, as either infinity does
 unfoldable pub readingOf : ℕ → ℕ → Float → Answer ℤ
 readingOf n half nan = refused (refusal n 0)
 readingOf n half (inf s) = refused (refusal n 0)
-readingOf n half (fin s m e) = inRange n half (greatestWhole s (2048 * (m * up e)) (down e))
+readingOf n half (fin s m e) =
+    unless (inRange half (2048 * (m * up e)) (down e)) (refusal n 0) (accepted (greatestWhole s (2048 * (m * up e)) (down e)))
 
 -- a position in whole units
 abbrev pub units : ℤ → ℤ → Units
@@ -61,14 +59,16 @@ Floors (inf s) u = ⊥
 Floors (fin s m e) u =
     ((u *ℤ pos (down e)) ≤ℤ signed s (2048 * (m * up e))) × (signed s (2048 * (m * up e)) <ℤ (sucℤ u *ℤ pos (down e)))
 
--- and u lies in a range that ends half units either way from 0
-pub record FloorsIn (half : ℕ) (x : Float) (u : ℤ) : Type 0 where
-  pub floors : Floors x u
-  pub in-range : index u < half
+-- -half ≤ 2048 * x ≤ half, multiplied clear of the power of two: both ends of a range lie in it
+unfoldable pub ReadsIn : ℕ → Float → Type 0
+ReadsIn half nan = ⊥
+ReadsIn half (inf s) = ⊥
+ReadsIn half (fin s m e) =
+    (negℤ (pos (half * down e)) ≤ℤ signed s (2048 * (m * up e))) × (signed s (2048 * (m * up e)) ≤ℤ pos (half * down e))
 
--- no number of the range is the greatest whole units not above x: it is not finite, or they lie outside
+-- x is not finite, or lies outside the range
 abbrev pub Beyond : ℕ → Float → Type 0
-Beyond half x = (u : ℤ) → FloorsIn half x u → ⊥
+Beyond half x = ReadsIn half x → ⊥
 
 -- the answers to two readings, each with its reason, in the paper's order
 pub data Why (x y : Float) : Answer Units → Type 0 where
@@ -77,6 +77,6 @@ pub data Why (x y : Float) : Answer Units → Type 0 where
   -- 2: both are numbers, and the longitude lies outside its range
   two : T (not (isNan x || isNan y)) → Beyond HALF x → Why x y (refused (refusal 2 0))
   -- 3: both are numbers, the longitude lies in its range, and the latitude outside its own
-  three : {u : ℤ} → T (not (isNan x || isNan y)) → FloorsIn HALF x u → Beyond QUARTER y → Why x y (refused (refusal 3 0))
-  -- the position: the greatest whole units not above either, both in range
-  position : {u v : ℤ} → FloorsIn HALF x u → FloorsIn QUARTER y v → Why x y (accepted (units u v))
+  three : T (not (isNan x || isNan y)) → ReadsIn HALF x → Beyond QUARTER y → Why x y (refused (refusal 3 0))
+  -- the position: both lie in their ranges, and these are the greatest whole units not above either
+  position : {u v : ℤ} → ReadsIn HALF x → ReadsIn QUARTER y → Floors x u → Floors y v → Why x y (accepted (units u v))

@@ -11,15 +11,10 @@ ghost use Rattle.grid.specs.Answers.{planeRead};
 ghost use Rattle.grid.specs.Plane.{cellOf};
 ghost use Rattle.arcseconds.specs.Readings.{readingOf, unitsAt, unitsOf, unitsRead};
 ghost use Rattle.arcseconds.specs.Boxes.{Exactly, BoxOf, BoxSays};
-ghost use Rattle.arcseconds.specs.inner.Axis.{readingAnswer};
+ghost use Rattle.arcseconds.specs.inner.Axis.{readingAnswer, indexedOf};
 use grid::Cell;
 use grid::PlaneRead;
 use grid::Refusal;
-
-// A longitude's numbers, either way from 0, and a latitude's.
-const HALF: u64 = grid::HALF as u64;
-
-const QUARTER: u64 = grid::QUARTER as u64;
 
 // A position in whole units.
 pub struct Units {
@@ -33,7 +28,7 @@ pub enum UnitsRead {
     Refused(Refusal),
 }
 
-// One reading that is a number: its whole units, or that they lie outside the range.
+// One reading that is a number: its whole units, or that it lies outside the range.
 enum Reading {
     Whole(i32),
     Outside,
@@ -54,7 +49,7 @@ fn shifted(d: u64, exponent: u64) -> u64
 // Below 0 the index comes from the digits less one, so that a reading of whole units keeps them.
 fn axis(x: f64, half: u64) -> Reading
     requires { ⌜ T (not (isNan x)) × (0 < half) × (half < 2 ^ 31) ⌝ }
-    ensures { λ r. ⌜ ((n : ℕ) → readingAnswer n r ≡ readingOf n half x) ⌝ }
+    ensures { λ r. ⌜ ((n : ℕ) → readingAnswer n r ≡ indexedOf n half x) ⌝ }
 {
     let bits: u64 = f64::to_bits(x);
     let size: u64 = bits % 0x8000_0000_0000_0000;
@@ -75,6 +70,22 @@ fn axis(x: f64, half: u64) -> Reading
         return Reading::Whole(outward as i32);
     }
     Reading::Whole(-1 - (outward as i32))
+}
+
+// One reading that is a number, in the range that ends half units either way from 0, both ends in it. `axis` leaves out the upper end; it is looked at
+// on the way out, where it costs the others nothing. A reading above it lies outside, also where its whole units are half.
+fn in_range(x: f64, half: u32) -> Reading
+    requires { ⌜ T (not (isNan x)) × (0 < half) × (half < 2 ^ 31) ⌝ }
+    ensures { λ r. ⌜ ((n : ℕ) → readingAnswer n r ≡ readingOf n half x) ⌝ }
+{
+    match axis(x, half as u64) {
+        Reading::Whole(u) => Reading::Whole(u),
+        Reading::Outside => if x == size_seconds(half) {
+            Reading::Whole(half as i32)
+        } else {
+            Reading::Outside
+        },
+    }
 }
 
 // Two readings that are numbers: 2, then 3.
@@ -103,7 +114,10 @@ pub fn read(longitude: f64, latitude: f64) -> UnitsRead
     if latitude != latitude {
         return UnitsRead::Refused(grid::refuse(11));
     }
-    position(axis(longitude, HALF), axis(latitude, QUARTER))
+    position(
+        in_range(longitude, grid::HALF),
+        in_range(latitude, grid::QUARTER),
+    )
 }
 
 // A box in arc-seconds.
@@ -127,7 +141,7 @@ fn seconds(u: i32) -> f64
     (u as f64) / 2048.0
 }
 
-// A width or height in arc-seconds.
+// A width, a height or the upper end of a range in arc-seconds.
 fn size_seconds(u: u32) -> f64
     ensures { λ r. ⌜ Exactly (pos u) r ⌝ }
 {

@@ -20,5 +20,6 @@ pub mod BothLaws
 pub mod Theorems
 pub mod Ranges
 pub mod Answers
+pub mod Ends
 pub mod Laying
 pub mod Storing

@@ -41,7 +41,7 @@ pub record RunIn (most : ℕ) (from : ℤ) (n : ℕ) : Type 0 where
   pub some : 0 < n
   pub ends-in : (from +ℤ pos n) ≤ℤ pos most
 
--- west lies in the longitude range, and the cell runs eastward from it by at most a turn; its rows, from south to the north edge, lie in the latitude range
+-- west is a longitude of the globe, and the cell runs eastward from it by at most a turn; its rows, from south to the north edge, lie from -90° to 90°
 pub record InRanges (c : Cell) : Type 0 where
   pub west-in : index (c .west) < HALF
   pub wide : 0 < c .width

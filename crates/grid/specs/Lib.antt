@@ -2,6 +2,7 @@ pub mod Units
 pub mod Characters
 pub mod Tree
 pub mod Answers
+pub mod Ends
 pub mod Places
 pub mod Codes
 pub mod Splits

@@ -300,7 +300,7 @@ abbrev pub least : Bool → ℕ → ℕ → ℤ
 least true u n = pos u
 least false u n = negsuc (u + n - 1)
 
--- the longitude e units eastward of 0, in its range
+-- the longitude e units eastward of 0, as a square has it
 abbrev pub longitudeAt : ℕ → ℤ
 longitudeAt e = cond (ltb e HALF) (pos e) (negsuc (TURN - 1 - e))
 

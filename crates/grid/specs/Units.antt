@@ -1,4 +1,4 @@
--- Units, ranges and the unit square. A unit is 1/2048 arc-second; a position names a unit square by its west and south corner.
+-- Units, the unit square and the globe. A unit is 1/2048 arc-second; a position names a unit square by its west and south corner.
 -- Assumes nothing.
 use mathlib.Core.Bool.{Bool, true, false}
 use Prim.Native.Nat.{ℕ, _-_, _*_, _<_}
@@ -61,7 +61,7 @@ pub record Square : Type 0 where
   pub longitude : ℤ
   pub latitude : ℤ
 
--- both numbers lie in their ranges
+-- the square lies on the globe: its outward indices are below those of 180° and 90°
 pub record OnGlobe (s : Square) : Type 0 where
   pub longitude-in : index (s .longitude) < HALF
   pub latitude-in : index (s .latitude) < QUARTER

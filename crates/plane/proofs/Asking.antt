@@ -4,16 +4,18 @@ use mathlib.Core.Path.{_≡_, refl, sym, _∙_, ap}
 use mathlib.Core.Bool.{Bool, true, false, _&&_}
 use Prim.Native.Nat.{ℕ, _≤_, _<_}
 use native.Mathlib.Omega.{arith}
-use lib.Dec.{ltb, leb}
+use lib.Dec.{ltb, leb, lit<}
 use lib.IntN.{ℤ, pos, negsuc}
 use lib.Signed.{ltZ}
 use borrow.Author.Tests.{ltb-true, ltb-false, leb-true, le-leb, lt-leb, lt-ltb, le-ltb}
 use Rattle.grid.specs.declared.Place.{Place}
 use Rattle.grid.specs.declared.Refusal.{Refusal}
 use Rattle.grid.specs.Units.{HALF, QUARTER, side, index, unit, Square}
+use Rattle.grid.specs.Ends.{unitIn}
 use Rattle.grid.specs.inner.Roads.{squareOf}
 use Rattle.grid.specs.Answers.{Answer, accepted, refused, refusal, about, unless}
-use Rattle.grid.proofs.Answers.{then-accepted, then-refused}
+use Rattle.grid.proofs.Answers.{then-accepted, then-refused, then-from, accepted-inj}
+use Rattle.grid.proofs.Ends.{unit-known}
 use Rattle.grid.proofs.Cut.{clash, and-true}
 use Rattle.grid.proofs.PlaneLaws.{index-unit}
 use Rattle.plane.specs.declared.AskedLevel.{AskedLevel}
@@ -59,45 +61,22 @@ level-known (negsuc k) e = clash (cc)
 
 -- ---- the position
 
-unit-of : (z : ℤ) → unit (side z) (index z) ≡ z
+pub unit-of : (z : ℤ) → unit (side z) (index z) ≡ z
 unit-of (pos n) = refl
 unit-of (negsuc n) = refl
 
-pub square-of : (u v : ℤ) {p : Place} → p .east ≡ side u → p .north ≡ side v → p .x ≡ index u → p .y ≡ index v → squareOf p ≡ record { longitude = u; latitude = v }
-square-of u v a b c d = rw (a, b, c, d, unit-of u, unit-of v) refl
-
-module _ (k : ℕ) (longitude latitude : ℤ) where
-  pub longitude-out : HALF ≤ index longitude → refused (about k (refusal 2 0)) ≡ squareIn k longitude latitude
-  unfolding squareIn
-  longitude-out h = rw (le-ltb (index longitude) HALF h) refl
-
-  pub latitude-out : index longitude < HALF → QUARTER ≤ index latitude → refused (about k (refusal 3 0)) ≡ squareIn k longitude latitude
-  unfolding squareIn
-  latitude-out h i = rw (lt-ltb (index longitude) HALF h, le-ltb (index latitude) QUARTER i) refl
-
-  pub position-within : index longitude < HALF → index latitude < QUARTER → {s : Square} → s ≡ record { longitude = longitude; latitude = latitude } → accepted s ≡ squareIn k longitude latitude
-  unfolding squareIn
-  position-within h i e = rw (lt-ltb (index longitude) HALF h, lt-ltb (index latitude) QUARTER i, e) refl
-
-  -- the place of a position that was accepted
-  position-known : (p : Place) → squareIn k longitude latitude ≡ accepted (squareOf p) → (p .x < HALF) × (p .y < QUARTER)
-  unfolding squareIn
-  position-known p e = go (ltb (index longitude) HALF) refl (ltb (index latitude) QUARTER) refl e
-    where
-      s : Square
-      s = record { longitude = longitude; latitude = latitude }
-
-      go : (a : Bool) → ltb (index longitude) HALF ≡ a → (b : Bool) → ltb (index latitude) QUARTER ≡ b
-          → unless a (about k (refusal 2 0)) (unless b (about k (refusal 3 0)) (accepted s)) ≡ accepted (squareOf p) → (p .x < HALF) × (p .y < QUARTER)
-      go true ta true tb e =
-          let q : s ≡ squareOf p = cc in
-          let x : index longitude ≡ p .x = ap (λ (z : Square). index (z .longitude)) q ∙ index-unit (p .east) (p .x) in
-          let y : index latitude ≡ p .y = ap (λ (z : Square). index (z .latitude)) q ∙ index-unit (p .north) (p .y) in (
-            let h : index longitude < HALF = ltb-true (index longitude) HALF ta in omega (arith, x, h),
-            let h : index latitude < QUARTER = ltb-true (index latitude) QUARTER tb in omega (arith, y, h),
-          )
-      go true ta false tb e = clash (cc)
-      go false ta b tb e = clash (cc)
+-- the place of a position that was accepted
+position-known : (k : ℕ) (longitude latitude : ℤ) (p : Place) → squareIn k longitude latitude ≡ accepted (squareOf p) → (p .x < HALF) × (p .y < QUARTER)
+unfolding squareIn
+position-known k longitude latitude p e =
+    let a = then-from (unitIn (about k (refusal 2 0)) HALF false longitude) _ (squareOf p) e in
+    let b = then-from (unitIn (about k (refusal 3 0)) QUARTER true latitude) _ (squareOf p) (a .2) in
+    let q = accepted-inj (b .2) in
+    let x : index (a .0) ≡ p .x = ap (λ (z : Square). index (z .longitude)) q ∙ index-unit (p .east) (p .x) in
+    let y : index (b .0) ≡ p .y = ap (λ (z : Square). index (z .latitude)) q ∙ index-unit (p .north) (p .y) in (
+      let h : index (a .0) < HALF = unit-known (about k (refusal 2 0)) HALF false (lit< tt) longitude (a .0) (a .1) in omega (arith, x, h),
+      let h : index (b .0) < QUARTER = unit-known (about k (refusal 3 0)) QUARTER true (lit< tt) latitude (b .0) (b .1) in omega (arith, y, h),
+    )
 
 -- ---- what was asked for, once its case is known
 

@@ -3,3 +3,4 @@ pub mod Lengths
 pub mod Asking
 pub mod Reading
 pub mod Equal
+pub mod Ends

@@ -3,11 +3,12 @@
 
 ghost use mathlib.Core.List.{map};
 ghost use mathlib.Core.Path.{_≡_};
-ghost use Prim.Native.Nat.{_-_, _≤_, _<_};
+ghost use Prim.Native.Nat.{_-_, _^_, _≤_, _<_};
 ghost use lib.Dec.{eqb};
 ghost use lib.ListN.{length, take};
 ghost use lib.Seq.{sets};
-ghost use Rattle.grid.specs.Units.{HALF, QUARTER, index};
+ghost use Rattle.grid.specs.Units.{HALF, QUARTER};
+ghost use Rattle.grid.specs.Ends.{unitIn};
 ghost use Rattle.grid.specs.Splits.{first, splitAt};
 ghost use Rattle.grid.specs.Characters.{digitOf};
 ghost use Rattle.grid.specs.Answers.{accepted, planeRead};
@@ -15,7 +16,7 @@ ghost use Rattle.grid.specs.Laying.{laid, written};
 ghost use Rattle.grid.specs.Plane.{codeOf, cellOf, globeChild};
 ghost use Rattle.grid.specs.inner.Roads.{squareOf};
 ghost use Rattle.plane.specs.Text.{levelIn, squareIn, planeTextAt, planeText};
-ghost use Rattle.plane.specs.inner.Asking.{levelAsked, positionAsked, placeAt, PlaneWritable};
+ghost use Rattle.plane.specs.inner.Asking.{levelAsked, standingAnswer, positionAsked, placeAt, PlaneWritable};
 ghost use Rattle.plane.specs.inner.Lengths.{levelOf};
 ghost use Rattle.plane.specs.inner.Start.{firstRead, Ranged, northOrSouth, letteredRead, zonedRead};
 use grid::Place;
@@ -173,37 +174,44 @@ pub fn ask_level(level: i64) -> AskedLevel
     AskedLevel::At(level as u32)
 }
 
-// The place of a position on the globe.
-fn placed(longitude: i64, latitude: i64, x: u64, y: u64) -> Place
-    requires { ⌜ (x ≡ index longitude) × (y ≡ index latitude) × (x < HALF) × (y < QUARTER) ⌝ }
-    ensures { λ r. ⌜ squareOf r ≡ record { longitude = longitude; latitude = latitude } ⌝ }
-{
-    Place {
-        east: upper(longitude),
-        north: upper(latitude),
-        x: x as u32,
-        y: y as u32,
-    }
+// One number of a position: the side and outward index of the unit that it stands for, or that it lies outside its range.
+enum Standing {
+    At(bool, u32),
+    Outside,
 }
 
-// The ranges as they are held against an i64's outward index.
-const HALF: u64 = grid::HALF as u64;
-
-const QUARTER: u64 = grid::QUARTER as u64;
+// What a number stands for in the range that ends half units either way from 0: the upper end for the last unit from 0 on where `up` is true, else
+// for the last below 0; every other number for itself.
+fn stands_for(u: i64, half: u32, up: bool) -> Standing
+    requires { ⌜ (0 < half) × (half < 2 ^ 31) ⌝ }
+    ensures { λ s. ⌜ ((r : Refusal) → standingAnswer r s ≡ unitIn r half up u) ⌝ }
+{
+    let x = outward(u);
+    if x < half as u64 {
+        return Standing::At(upper(u), x as u32);
+    }
+    if u == half as i64 {
+        return Standing::At(up, half - 1);
+    }
+    Standing::Outside
+}
 
 // The place of a position, or 2 and 3 in that order, about the position of the call that the ordinal says.
 pub fn ask_position(ordinal: u32, longitude: i64, latitude: i64) -> AskedPosition
     ensures { λ r. ⌜ positionAsked r ≡ squareIn ordinal longitude latitude ⌝ }
 {
-    let x = outward(longitude);
-    let y = outward(latitude);
-    if HALF <= x {
-        return AskedPosition::Refused(grid::about(ordinal, grid::refuse(2)));
+    match stands_for(longitude, grid::HALF, false) {
+        Standing::Outside => AskedPosition::Refused(grid::about(ordinal, grid::refuse(2))),
+        Standing::At(east, x) => match stands_for(latitude, grid::QUARTER, true) {
+            Standing::Outside => AskedPosition::Refused(grid::about(ordinal, grid::refuse(3))),
+            Standing::At(north, y) => AskedPosition::At(Place {
+                east: east,
+                north: north,
+                x: x,
+                y: y,
+            }),
+        },
     }
-    if QUARTER <= y {
-        return AskedPosition::Refused(grid::about(ordinal, grid::refuse(3)));
-    }
-    AskedPosition::At(placed(longitude, latitude, x, y))
 }
 
 // Writes the code of a level for a place from the line's first byte on. The place is handed over by its parts, which travel in registers: a `Place`

@@ -22,7 +22,7 @@ use grid::Split;
 // 60°, the width of a belt cell.
 const SIXTH: u32 = 60 * grid::DEGREE;
 
-// The longitude e units eastward of 0, in its range.
+// The longitude e units eastward of 0, as a square has it.
 fn longitude_at(e: u32) -> i32
     requires { ⌜ e < TURN ⌝ }
     ensures { λ r. ⌜ r ≡ longitudeAt e ⌝ }

@@ -1,9 +1,10 @@
--- Document 01's cases, all of them at once: by computing. Assumes nothing.
+-- The documents' cases, all of them at once: by computing. Assumes nothing.
 use mathlib.Core.Path.{_≡_, refl}
 use mathlib.Core.List.{map}
 use Rattle.grid.specs.Characters.{charOf, digitOf}
 use Rattle.grid.specs.Tree.{code, follow}
 use Rattle.grid.specs.Codes.{codeIn, readIn}
+use Rattle.grid.specs.Ends.{unitIn}
 use Rattle.grid.specs.Plane.{polarCellOf, planeCodes, codeOf, cellOf}
 use Rattle.grid.specs.Layers.{editionIn}
 use Rattle.grid.specs.Space.{spaceCodes, spaceCodeOf, spaceCellOf}
@@ -15,5 +16,5 @@ use Rattle.reference.specs.Text.{fit, spelled, spanned, referenceText, targetOf
 use Rattle.positions.specs.Cases.{given, said, cases}
 
 pub all-hold : map given cases ≡ map said cases
-unfolding levelIn squareIn editionIn planeText levelOf spaceText layeredText referenceText spanned spelled fit between spanIn targetText offsetIn targetOf movedTo codeOf cellOf spaceCodeOf spaceCellOf codeIn readIn code follow charOf digitOf polarCellOf planeCodes spaceCodes
+unfolding unitIn levelIn squareIn editionIn planeText levelOf spaceText layeredText referenceText spanned spelled fit between spanIn targetText offsetIn targetOf movedTo codeOf cellOf spaceCodeOf spaceCellOf codeIn readIn code follow charOf digitOf polarCellOf planeCodes spaceCodes
 all-hold = refl

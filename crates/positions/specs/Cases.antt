@@ -1,4 +1,5 @@
--- One table of what is asked and what document 01 says: its cases P1 to P13, the codes that it says are refused, and the cells about the poles.
+-- One table of what is asked and what the documents say: the cases P1 to P13, the codes that are refused, the ends of the ranges, the editions, and the
+-- cells about the poles.
 -- Assumes nothing.
 use mathlib.Core.List.{List, [], _∷_, _++_}
 use Prim.Native.Nat.{ℕ, _+_, _*_}
@@ -34,7 +35,7 @@ northLess n = pos (deg 90 0) -ℤ pos n
 abbrev pub southPlus : ℕ → ℤ
 southPlus n = pos n -ℤ pos (deg 90 0)
 
--- a case: what is asked, and what document 01 says
+-- a case: what is asked, and what the documents say
 pub data Case : Type 0 where
   -- level, longitude, latitude: the plane code
   writes : ℤ → ℤ → ℤ → String → Case
@@ -76,7 +77,7 @@ given (stops t n p) = cells (cellOf (bytes t))
 given (beyond e l u v z n) = texts (spaceText e l u v z)
 given (halts e t n p) = spaces (spaceCellIn e (bytes t))
 
--- what document 01 says
+-- what the documents say
 abbrev pub said : Case → Outcome
 said (writes l u v t) = texts (accepted (bytes t))
 said (reads t l x y w h) = cells (accepted (cellFrom l x y w h))
@@ -89,7 +90,7 @@ said (stops t n p) = cells (refused (refusal n p))
 said (beyond e l u v z n) = texts (refused (refusal n 0))
 said (halts e t n p) = spaces (refused (refusal n p))
 
--- document 01's cases
+-- document 01's cases, the run case of 180° as document 02 has it
 abbrev pub paperCases : List Case
 paperCases =
     -- P1, P2, P3
@@ -132,7 +133,7 @@ paperCases =
     ∷ relates "N31A0000000" "S31A0000000" "N31A0000000-0A"
     ∷ relates "N30A0000000" "N31A0000000" "N30A0000000-10"
     -- those that are run, and the program's lines
-    ∷ outside (pos 1) (pos 1327104000) (pos 0) 2
+    ∷ writes (pos 1) (pos 1327104000) (pos 0) "N01A"
     ∷ stops "N00A" 7 3
     ∷ stops "N61A" 7 2
     ∷ stops "" 6 0
@@ -167,10 +168,40 @@ editionCases =
     ∷ halts (pos 1) "N031A000000000000F" 7 17
     -- 13: after 1 and before 2 in writing, before 6 in reading
     ∷ beyond (pos 3) (pos 0) (pos 0) (pos 0) (pos 0) 1
-    ∷ beyond (pos 3) (pos 1) (pos 1327104000) (pos 0) (pos 0) 13
+    ∷ beyond (pos 3) (pos 1) (pos 1327104001) (pos 0) (pos 0) 13
     ∷ beyond (- 1) (pos 1) (pos 0) (pos 0) (pos 0) 13
     ∷ halts (pos 0) "" 13 0
     ∷ halts (pos 4294967297) "N031A00" 13 0
+    ∷ []
+
+-- the ends of the ranges (document 02, Wish 2), their codes worked out by hand
+abbrev pub endCases : List Case
+endCases =
+    -- 180° is the last column west of Greenwich: zone 1, and every column the outermost; also below the equator, and in the belt (P8)
+    writes (pos 10) (pos 1327104000) (pos 0) "N01AB01E0E0170707070"
+    ∷ writes (pos 10) (- 1327104000) (pos 0) "N01AB01E0E0170707070"
+    ∷ writes (pos 10) (pos 1327103999) (pos 0) "N60AB01E0E0170707070"
+    ∷ writes (pos 1) (pos 1327104000) (- 1) "S01A"
+    ∷ writes (pos 2) (pos 1327104000) (pos 648806400) "N00021"
+    -- 90° is the pole's cap, at every longitude; both ends at once
+    ∷ writes (pos 10) (pos 0) (pos 663552000) "N0000000000000000000"
+    ∷ writes (pos 4) (- 884736000) (pos 663552000) "N00000000"
+    ∷ writes (pos 10) (pos 1327104000) (pos 663552000) "N0000000000000000000"
+    ∷ writes (pos 1) (pos 1327104000) (- 663552000) "S000"
+    -- one number further, 2 before 3
+    ∷ outside (pos 1) (pos 1327104001) (pos 0) 2
+    ∷ outside (pos 1) (- 1327104001) (pos 0) 2
+    ∷ outside (pos 1) (pos 1327104000) (pos 663552001) 3
+    ∷ outside (pos 1) (pos 0) (- 663552001) 3
+    ∷ outside (pos 1) (pos 1327104001) (pos 663552001) 2
+    -- the space codes of both editions
+    ∷ layers (pos 1) (pos 1) (pos 1327104000) (pos 0) (- 1) "N101A63"
+    ∷ layers (pos 2) (pos 2) (pos 1327104000) (pos 0) (pos 0) "N001A00B00"
+    ∷ layers (pos 1) (pos 1) (pos 1327104000) (pos 663552000) (pos 0) "N000000"
+    ∷ layers (pos 2) (pos 1) (pos 5) (pos 663552000) (- 1) "N100063"
+    ∷ beyond (pos 1) (pos 1) (pos 1327104001) (pos 663552001) (pos 1887436800) 2
+    ∷ beyond (pos 2) (pos 1) (pos 1327104000) (pos 663552001) (pos 2147483648) 3
+    ∷ beyond (pos 2) (pos 1) (pos 1327104000) (pos 663552000) (pos 2147483648) 4
     ∷ []
 
 -- the cells about the poles, their numbers worked out from document 01's text
@@ -301,4 +332,4 @@ polarCases =
 
 -- the table
 abbrev pub cases : List Case
-cases = paperCases ++ (editionCases ++ polarCases)
+cases = paperCases ++ (endCases ++ (editionCases ++ polarCases))

@@ -21,7 +21,7 @@ offset v = cond (ltb v 8) (pos v) (negℤ (pos (v - 9)))
 unfoldable pub movedTo : ℕ → ℕ → ℤ → ℕ
 movedTo size v z = around (z +ℤ offset v *ℤ pos size)
 
--- that longitude or latitude in its range
+-- that longitude or latitude, as a square has it
 abbrev pub moved : ℕ → ℕ → ℤ → ℤ
 moved size v z = longitudeAt (movedTo size v z)
 

@@ -6,3 +6,4 @@ pub mod Parts
 pub mod Reading
 pub mod Writing
 pub mod Bits
+pub mod Ends

@@ -1,7 +1,7 @@
 //! Numbers at and around edges: of cells, of ranges, of machine numbers.
 
 use super::{near_edge, Random, HEIGHTS, WIDTHS};
-use crate::plane::{self, DEGREE, LATITUDE, LONGITUDE, POLAR_INDEX, TURN};
+use crate::plane::{self, DEGREE, LATITUDE, LONGITUDE, POLAR_INDEX, SOUTH, TURN, WEST};
 use crate::space::Edition;
 
 /// Adds a number and its neighbours.
@@ -16,7 +16,7 @@ fn tidy(mut list: Vec<i64>, range: (i64, i64)) -> Vec<i64> {
     list
 }
 
-/// Longitudes at the edges of columns of every kind.
+/// Longitudes of squares at the edges of columns of every kind.
 pub fn edge_longitudes() -> Vec<i64> {
     let mut list = Vec::new();
     for zone in -30..=30 {
@@ -32,11 +32,11 @@ pub fn edge_longitudes() -> Vec<i64> {
             around(&mut list, -edge + width);
         }
     }
-    tidy(list, LONGITUDE)
+    tidy(list, WEST)
 }
 
-/// Latitudes at the edges of rows of every kind: each letter, 88°, 88°30',
-/// 89°, 89°30', each cap, the poles.
+/// Latitudes of squares at the edges of rows of every kind: each letter, 88°,
+/// 88°30', 89°, 89°30', each cap, the poles.
 pub fn edge_latitudes() -> Vec<i64> {
     let mut list = Vec::new();
     for row in 0..=22 {
@@ -55,7 +55,7 @@ pub fn edge_latitudes() -> Vec<i64> {
     }
     let below: Vec<i64> = list.iter().map(|latitude| -latitude).collect();
     list.extend(below);
-    tidy(list, LATITUDE)
+    tidy(list, SOUTH)
 }
 
 /// Thicknesses of the height cells of levels 1 to 10.
@@ -122,6 +122,24 @@ pub const ODD_EDITIONS: [i64; 14] = [
     i64::MAX,
 ];
 
+/// One below, at and one above both ends of a range.
+pub fn ends((least, greatest): (i64, i64)) -> Vec<i64> {
+    let mut list = Vec::new();
+    around(&mut list, least);
+    around(&mut list, greatest);
+    list
+}
+
+/// The same of both editions' layers, and layers about the ground.
+pub fn end_layers() -> Vec<i64> {
+    Edition::BOTH.into_iter().flat_map(|edition| ends(edition.layers())).chain([-1, 0, 1]).collect()
+}
+
+/// An end of a range, or a number up to two away from it.
+pub fn near_end(random: &mut Random, (least, greatest): (i64, i64)) -> i64 {
+    random.pick(&[least, greatest]) + random.between(-2, 2)
+}
+
 /// Numbers around a range's ends and around the ends of machine numbers, some
 /// of which would fall into the range if they were cut to 32 bits.
 pub fn extremes(range: (i64, i64)) -> Vec<i64> {
@@ -156,11 +174,16 @@ pub fn outside(random: &mut Random, range: (i64, i64)) -> i64 {
     }
 }
 
-/// A level, a longitude and a latitude, each often outside its range.
+/// A level, a longitude and a latitude, each often outside its range or near an
+/// end of it.
 pub fn odd_position(random: &mut Random) -> (i64, i64, i64) {
     let (longitude, latitude) = near_edge(random);
     let level = random.between(1, 10);
-    let mut odd = |number, range| if random.one_in(3) { outside(random, range) } else { number };
+    let mut odd = |number, range| match random.below(6) {
+        0 | 1 => outside(random, range),
+        2 => near_end(random, range),
+        _ => number,
+    };
     (odd(level, (1, 10)), odd(longitude, LONGITUDE), odd(latitude, LATITUDE))
 }
 

@@ -7,7 +7,7 @@ use crate::regions;
 use crate::tally::Tally;
 use hailgully_raw::HgWritten;
 use hailgully_tests::cases::Random;
-use hailgully_tests::plane::{self, within, write::finest, PlaneCell, LATITUDE, LENGTHS, LONGITUDE};
+use hailgully_tests::plane::{self, square, within, write::finest, PlaneCell, LATITUDE, LENGTHS, LONGITUDE};
 use hailgully_tests::refusals::Refusal;
 use hailgully_tests::space::{self, Edition};
 use hailgully_tests::{arcseconds, reference, slips};
@@ -142,7 +142,8 @@ impl Run {
         let apply = bits(&[!known, !within(east, LONGITUDE), !within(north, LATITUDE), known && room < LENGTHS[(level - 1) as usize]]);
         self.count(Call::PlaneWrite, apply, own.err());
         if let Ok(length) = own {
-            self.accepted(Call::PlaneWrite, &finest(east, north)[..length]);
+            let (west, south) = square(east, north);
+            self.accepted(Call::PlaneWrite, &finest(west, south)[..length]);
         }
     }
 
@@ -184,7 +185,8 @@ impl Run {
             ]);
             self.count(Call::space_write(row), apply, own.err());
             if own.is_ok() {
-                self.accepted_space(Call::space_write(row), &finest(east, north)[..LENGTHS[level as usize - 1]], layer < 0);
+                let (west, south) = square(east, north);
+                self.accepted_space(Call::space_write(row), &finest(west, south)[..LENGTHS[level as usize - 1]], layer < 0);
             }
         }
     }
@@ -274,13 +276,9 @@ impl Run {
             return;
         }
         let own = arcseconds::arcseconds(longitude, latitude);
-        self.answer(own, library::arcseconds(longitude, latitude), || {
-            let (east, north) = (f64::from_bits(longitude), f64::from_bits(latitude));
-            format!("hg_arcseconds {east:e} ({longitude:#x}) {north:e} ({latitude:#x})")
-        });
-        let nan = |bits| arcseconds::reading(bits) == arcseconds::Reading::NotANumber;
-        let out = |bits, range| !nan(bits) && arcseconds::one(bits, range).is_none();
-        let apply = bits(&[nan(longitude) || nan(latitude), out(longitude, LONGITUDE), out(latitude, LATITUDE)]);
+        let (east, north) = (f64::from_bits(longitude), f64::from_bits(latitude));
+        self.answer(own, library::arcseconds(east, north), || format!("hg_arcseconds {east:e} ({longitude:#x}) {north:e} ({latitude:#x})"));
+        let apply = bits(&[east.is_nan() || north.is_nan(), east.abs() > 648_000.0, north.abs() > 324_000.0]);
         self.count(Call::Arcseconds, apply, own.err());
     }
 

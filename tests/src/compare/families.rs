@@ -5,6 +5,7 @@ use crate::checks::Run;
 use hailgully_tests::cases;
 
 mod arcseconds;
+mod ends;
 mod long;
 mod own;
 mod plane;
@@ -32,6 +33,7 @@ pub fn all(huge: bool) -> Vec<Family> {
         own::families(),
         long::families(huge),
         regions::families(),
+        ends::families(),
         plane::families(),
         space::families(),
         reference::families(),

@@ -1,5 +1,6 @@
-//! Faults of a library, made between it and the checks: a length, a place or an edition reaches it cut to 8, 16 or 32 bits, or a lent byte comes
-//! back changed. Turned on by number like the oracle's slips, after which they are numbered; each must be found.
+//! Faults of a library, made between it and the checks: a length, a place or an edition reaches it cut to 8, 16 or 32 bits, a lent byte comes back
+//! changed, or a longitude or latitude is clipped to its range or refused at its upper end. Turned on by number like the oracle's slips, after which
+//! they are numbered; each must be found.
 
 use hailgully_tests::slips;
 
@@ -37,30 +38,50 @@ const LENT: [&str; 10] = [
     "hg_plane_box code",
 ];
 
+/// The longitudes and latitudes that they take, in units and in arc-seconds.
+const POSITIONS: [&str; 6] = [
+    "hg_plane_write longitude",
+    "hg_plane_write latitude",
+    "hg_space_write longitude",
+    "hg_space_write latitude",
+    "hg_arcseconds longitude",
+    "hg_arcseconds latitude",
+];
+
 const CUTS: [u32; 3] = [8, 16, 32];
+
+// Where the faults of each kind begin, one after the other, and where they end.
+const CHANGES: usize = SIZES.len() * CUTS.len();
+const CLIPS: usize = CHANGES + LENT.len();
+const ENDS: usize = CLIPS + POSITIONS.len();
+const FAULTS: usize = ENDS + POSITIONS.len();
 
 enum Fault {
     Cut(&'static str, u32),
     Changed(&'static str),
+    Clipped(&'static str),
+    EndRefused(&'static str),
 }
 
 /// How many slips and faults there are.
 pub fn count() -> u32 {
-    (slips::LIST.len() + SIZES.len() * CUTS.len() + LENT.len()) as u32
+    (slips::LIST.len() + FAULTS) as u32
 }
 
 /// The fault of this number, if it is none of the oracle's slips.
 fn fault(number: u32) -> Option<Fault> {
     let at = (number as usize).checked_sub(slips::LIST.len() + 1)?;
-    match SIZES.get(at / CUTS.len()) {
-        Some(size) => Some(Fault::Cut(size, CUTS[at % CUTS.len()])),
-        None => LENT.get(at - SIZES.len() * CUTS.len()).map(|lent| Fault::Changed(lent)),
-    }
+    Some(match at {
+        ENDS.. => Fault::EndRefused(POSITIONS[at - ENDS]),
+        CLIPS.. => Fault::Clipped(POSITIONS[at - CLIPS]),
+        CHANGES.. => Fault::Changed(LENT[at - CHANGES]),
+        _ => Fault::Cut(SIZES[at / CUTS.len()], CUTS[at % CUTS.len()]),
+    })
 }
 
 /// The fixed families show it sooner than random cases do.
 pub fn fixed_first(number: u32) -> bool {
-    fault(number).is_some()
+    matches!(fault(number), Some(Fault::Cut(..) | Fault::Changed(_)))
 }
 
 /// Only memory of 2^31 bytes and more shows it.
@@ -74,6 +95,8 @@ pub fn words(number: u32) -> String {
         None => slips::LIST[number as usize - 1].to_string(),
         Some(Fault::Cut(size, bits)) => format!("the library cuts {size} to {bits} bits"),
         Some(Fault::Changed(lent)) => format!("the library changes a byte of {lent}"),
+        Some(Fault::Clipped(position)) => format!("the library clips {position} to its range"),
+        Some(Fault::EndRefused(position)) => format!("the library refuses {position} at its upper end"),
     }
 }
 
@@ -98,5 +121,25 @@ pub fn change(lent: &str, bytes: &mut [u8]) {
     match (fault(slips::current()), bytes.last_mut()) {
         (Some(Fault::Changed(which)), Some(byte)) if which == lent => *byte ^= 1,
         _ => {}
+    }
+}
+
+/// A longitude or a latitude as it reaches the library, in units.
+#[inline(always)]
+pub fn units(which: &str, number: i64, (least, greatest): (i64, i64)) -> i64 {
+    match fault(slips::current()) {
+        Some(Fault::Clipped(position)) if position == which => number.clamp(least, greatest),
+        Some(Fault::EndRefused(position)) if position == which && number == greatest => number + 1,
+        _ => number,
+    }
+}
+
+/// The same in arc-seconds.
+#[inline(always)]
+pub fn reading(which: &str, reading: f64, end: f64) -> f64 {
+    match fault(slips::current()) {
+        Some(Fault::Clipped(position)) if position == which => reading.clamp(-end, end),
+        Some(Fault::EndRefused(position)) if position == which && reading == end => reading.next_up(),
+        _ => reading,
     }
 }

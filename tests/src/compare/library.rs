@@ -1,8 +1,8 @@
 //! The library's calls on lent slices, and what each should return for the oracle's answer.
 
-use crate::faults::{change, cut, cut_edition};
+use crate::faults::{change, cut, cut_edition, reading, units};
 use hailgully_raw::*;
-use hailgully_tests::plane::PlaneCell;
+use hailgully_tests::plane::{PlaneCell, LATITUDE, LONGITUDE};
 use hailgully_tests::refusals::Refusal;
 use hailgully_tests::space::SpaceCell;
 
@@ -10,6 +10,7 @@ use hailgully_tests::space::SpaceCell;
 // call. Codes too are lent from slices that may be written: only so can be seen whether they were.
 
 pub fn plane_write(level: i64, east: i64, north: i64, line: &mut [u8], at: usize) -> HgWritten {
+    let (east, north) = (units("hg_plane_write longitude", east, LONGITUDE), units("hg_plane_write latitude", north, LATITUDE));
     let (length, at) = (cut("hg_plane_write length", line.len()), cut("hg_plane_write at", at));
     let got = unsafe { hg_plane_write(level, east, north, line.as_mut_ptr(), length, at) };
     change("hg_plane_write line", line);
@@ -25,6 +26,7 @@ pub fn plane_read(code: &mut [u8]) -> HgPlaneCell {
 
 pub fn space_write(edition: i64, level: i64, east: i64, north: i64, layer: i64, line: &mut [u8], at: usize) -> HgWritten {
     let edition = cut_edition("hg_space_write edition", edition);
+    let (east, north) = (units("hg_space_write longitude", east, LONGITUDE), units("hg_space_write latitude", north, LATITUDE));
     let (length, at) = (cut("hg_space_write length", line.len()), cut("hg_space_write at", at));
     let got = unsafe { hg_space_write(edition, level, east, north, layer, line.as_mut_ptr(), length, at) };
     change("hg_space_write line", line);
@@ -59,8 +61,9 @@ pub fn reference_read(code: &mut [u8], line: &mut [u8], at: usize) -> HgWritten 
     got
 }
 
-pub fn arcseconds(longitude: u64, latitude: u64) -> HgUnits {
-    unsafe { hg_arcseconds(f64::from_bits(longitude), f64::from_bits(latitude)) }
+pub fn arcseconds(east: f64, north: f64) -> HgUnits {
+    let (east, north) = (reading("hg_arcseconds longitude", east, 648_000.0), reading("hg_arcseconds latitude", north, 324_000.0));
+    unsafe { hg_arcseconds(east, north) }
 }
 
 pub fn plane_box(code: &mut [u8]) -> HgBox {

@@ -228,8 +228,7 @@ fn cap(of: &Listed) -> Vec<Listed> {
     list
 }
 
-/// The code of the cell of this level that holds the square. The position and
-/// the level lie in their ranges.
+/// The code of the cell of this level, 1 to 10, that holds the square.
 pub fn code(level: usize, longitude: i64, latitude: i64) -> (Vec<u8>, PlaneCell) {
     let eastward = super::eastward(longitude);
     let mut text = Vec::with_capacity(20);

@@ -10,8 +10,14 @@ use crate::slips;
 /// "A unit is 1/2048 arc-second; one degree is 7,372,800 units."
 pub const DEGREE: i64 = 7_372_800;
 pub const TURN: i64 = 360 * DEGREE;
-pub const LONGITUDE: (i64, i64) = (-1_327_104_000, 1_327_103_999);
-pub const LATITUDE: (i64, i64) = (-663_552_000, 663_551_999);
+/// The numbers that a caller may give. Wish 2 of document 02: "for whole units
+/// 2 and 3 begin one unit later at the upper end".
+pub const LONGITUDE: (i64, i64) = (-1_327_104_000, 1_327_104_000);
+pub const LATITUDE: (i64, i64) = (-663_552_000, 663_552_000);
+/// The west and south corners of unit squares: document 01's ranges, as "demand
+/// 3 still speaks of unit squares".
+pub const WEST: (i64, i64) = (-1_327_104_000, 1_327_103_999);
+pub const SOUTH: (i64, i64) = (-663_552_000, 663_551_999);
 /// Ordinary "means latitude index below 648,806,400 (88°)".
 pub const POLAR_INDEX: i64 = 648_806_400;
 /// Lengths of the codes of levels 1 to 10.
@@ -65,6 +71,26 @@ pub fn eastward(longitude: i64) -> i64 {
     }
 }
 
+/// "Longitudes a full turn apart name the same square": the one that a square
+/// has.
+pub fn wrap(longitude: i64) -> i64 {
+    let eastward = longitude.rem_euclid(TURN);
+    if within(eastward, WEST) {
+        eastward
+    } else {
+        eastward - TURN
+    }
+}
+
+/// The square of a position in the ranges. "Longitude 1,327,104,000 gets the
+/// code of -1,327,104,000", which is a full turn away, "and latitude 663,552,000
+/// gets the code of 663,551,999 at the same longitude", the greatest there is.
+pub fn square(longitude: i64, latitude: i64) -> (i64, i64) {
+    let west = if slips::on(slips::LAST_UNIT_FOR_180) { longitude.min(WEST.1) } else { wrap(longitude) };
+    let turned = slips::on(slips::POLE_TURNS) && latitude > SOUTH.1;
+    (west, if turned { SOUTH.0 } else { latitude.min(SOUTH.1) })
+}
+
 /// "West lies in the longitude range": the longitude of an eastward number.
 pub fn west_of(eastward: i64) -> i32 {
     let past = if slips::on(slips::WEST_EDGE_POSITIVE) { eastward > TURN / 2 } else { eastward >= TURN / 2 };
@@ -85,15 +111,26 @@ pub fn refuse_level(level: i64) -> Result<(), Refusal> {
     Ok(())
 }
 
+/// Whether a writer takes a number for one of its range.
+fn taken(number: i64, (least, greatest): (i64, i64)) -> bool {
+    match slips::current() {
+        slips::OLD_ENDS => within(number, (least, greatest - 1)),
+        slips::UNIT_TOO_MANY => within(number, (least, greatest + 1)),
+        slips::UNIT_TOO_MANY_BELOW => within(number, (least - 1, greatest)),
+        _ => within(number, (least, greatest)),
+    }
+}
+
 /// Refusals 2, 3 in their order.
 pub fn refuse_position(longitude: i64, latitude: i64) -> Result<(), Refusal> {
     if slips::on(slips::LATITUDE_FIRST) && !within(latitude, LATITUDE) {
         return Err(refusal(3));
     }
-    if !within(longitude, LONGITUDE) {
+    let pole_first = slips::on(slips::POLE_FIRST) && latitude == LATITUDE.1;
+    if !taken(longitude, LONGITUDE) && !pole_first {
         return Err(refusal(2));
     }
-    if !within(latitude, LATITUDE) {
+    if !taken(latitude, LATITUDE) {
         return Err(refusal(3));
     }
     Ok(())
@@ -103,7 +140,8 @@ pub fn refuse_position(longitude: i64, latitude: i64) -> Result<(), Refusal> {
 pub fn write(level: i64, longitude: i64, latitude: i64, line: &mut [u8], at: usize) -> Result<usize, Refusal> {
     refuse_level(level)?;
     refuse_position(longitude, latitude)?;
-    let code = write::finest(longitude, latitude);
+    let (west, south) = square(longitude, latitude);
+    let code = write::finest(west, south);
     put(&code[..LENGTHS[level as usize - 1]], line, at)
 }
 

@@ -37,7 +37,7 @@ fn digits(code: &mut [u8; 20], splits: &[(usize, i64, i64)], mut across: i64, mu
     (across, along)
 }
 
-/// The level 10 code of a square whose position lies in the ranges.
+/// The level 10 code of a square.
 pub fn finest(longitude: i64, latitude: i64) -> [u8; 20] {
     let mut code = [b'0'; 20];
     code[0] = if latitude >= 0 { b'N' } else { b'S' };

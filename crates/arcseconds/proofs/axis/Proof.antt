@@ -10,7 +10,7 @@ use lib.Dec.{T}
 use lib.Ieee.{binary64, toBits, ofBits, fits}
 use lib.Ieee.Bits.{ofBits-toBits, toBits-lt}
 use Rattle.grid.specs.Units.{unit}
-use Rattle.arcseconds.specs.Readings.{inRange, readingOf}
+use Rattle.arcseconds.specs.inner.Axis.{indexBelow, indexedOf}
 use Rattle.arcseconds.proofs.Pattern.{sign, reads-zero, reads-far, reads-near, out, east, west, minus-fits}
 use Rattle.arcseconds.proofs.axis.Statement.{statement}
 use Rattle.arcseconds.proofs.axis.Tie as tie
@@ -25,8 +25,8 @@ H s = s .args .half
 held : (s : tie.Start) → T (fits binary64 (s .args .x))
 held s = subst T (sym (s .good .0 .1)) tt
 
-back : (n : ℕ) (s : tie.Start) → readingOf n (H s) (ofBits binary64 (b s)) ≡ readingOf n (H s) (s .args .x)
-back n s = ap (readingOf n (H s)) (ofBits-toBits binary64 (s .args .x) (held s))
+back : (n : ℕ) (s : tie.Start) → indexedOf n (H s) (ofBits binary64 (b s)) ≡ indexedOf n (H s) (s .args .x)
+back n s = ap (indexedOf n (H s)) (ofBits-toBits binary64 (s .args .x) (held s))
 
 bits-lt : (s : tie.Start) → b s < 2 * 2 ^ 63
 bits-lt s = toBits-lt binary64 (s .args .x) (held s)
@@ -54,10 +54,10 @@ shifted-requires : tie.Need-shifted-requires
 shifted-requires c κs = search needs
 
 -- the number on the pattern's side whose outward index was worked out
-near : (n : ℕ) (c : tie.After-shifted) → (let s = c .before .before .before in inRange n (H s) (unit (not (sign (b s))) (c .shifted .result)) ≡ readingOf n (H s) (s .args .x))
+near : (n : ℕ) (c : tie.After-shifted) → (let s = c .before .before .before in indexBelow n (H s) (unit (not (sign (b s))) (c .shifted .result)) ≡ indexedOf n (H s) (s .args .x))
 near n c =
     let s = c .before .before .before in
-    ap (λ (k : ℕ). inRange n (H s) (unit (not (sign (b s))) k)) (c .shifted .ensures)
+    ap (λ (k : ℕ). indexBelow n (H s) (unit (not (sign (b s))) k)) (c .shifted .ensures)
     ∙ reads-near n (H s) (s .pre .1) (s .pre .2) (b s) (bits-lt s) (c .before .before .if1 .left) (c .before .if2 .left)
     ∙ back n s
 
@@ -79,7 +79,7 @@ returns-4 : tie.Need-returns-4
 returns-4 c n =
     let s = c .before .before .before .before .before in
     east n (H s) (s .pre .1) (s .pre .2) (c .before .before .shifted .result) (c .before .if3 .left)
-    ∙ ap (λ (t : Bool). inRange n (H s) (unit (not t) (c .before .before .shifted .result))) (sym (lt-leb (2 ^ 63) (b s) (positive (b s) (c .if4 .taken))))
+    ∙ ap (λ (t : Bool). indexBelow n (H s) (unit (not t) (c .before .before .shifted .result))) (sym (lt-leb (2 ^ 63) (b s) (positive (b s) (c .if4 .taken))))
     ∙ near n (c .before .before)
 
 cast-t13 : tie.Need-cast-t13
@@ -94,7 +94,7 @@ returns-5 : tie.Need-returns-5
 returns-5 c n =
     let s = c .before .before .before .before .before in
     west n (H s) (s .pre .1) (s .pre .2) (c .before .before .shifted .result) (c .before .if3 .left)
-    ∙ ap (λ (t : Bool). inRange n (H s) (unit (not t) (c .before .before .shifted .result))) (sym (le-leb (2 ^ 63) (b s) (negative (b s) (c .if4 .left))))
+    ∙ ap (λ (t : Bool). indexBelow n (H s) (unit (not t) (c .before .before .shifted .result))) (sym (le-leb (2 ^ 63) (b s) (negative (b s) (c .if4 .left))))
     ∙ near n (c .before .before)
 
 pub axis-spec : {M : Type 1} → statement M

@@ -20,11 +20,11 @@ refuse-requires-2 c κs = search needs
 returns-2 : tie.Need-returns-2
 returns-2 c = ap refused (c .refuse2 .ensures) ∙ second-nan (c .before .before .before .args .longitude) (c .before .before .before .args .latitude) (c .before .if2 .taken)
 
-axis-requires : tie.Need-axis-requires
-axis-requires c κs = (no-nan (c .before .before .args .longitude) (c .before .if1 .left), search needs, search needs)
+in-range-requires : tie.Need-in-range-requires
+in-range-requires c κs = (no-nan (c .before .before .args .longitude) (c .before .if1 .left), search needs, search needs)
 
-axis-requires-2 : tie.Need-axis-requires-2
-axis-requires-2 c κs = (no-nan (c .before .before .before .args .latitude) (c .before .if2 .left), search needs, search needs)
+in-range-requires-2 : tie.Need-in-range-requires-2
+in-range-requires-2 c κs = (no-nan (c .before .before .before .args .latitude) (c .before .if2 .left), search needs, search needs)
 
 position-requires : tie.Need-position-requires
 position-requires c κs = search needs
@@ -33,7 +33,7 @@ returns-3 : tie.Need-returns-3
 returns-3 c =
     let s = c .before .before .before .before .before in
     c .position .ensures
-    ∙ ap₂ unitsAt (c .before .before .axis .ensures 2) (c .before .axis2 .ensures 3)
+    ∙ ap₂ unitsAt (c .before .before .in-range .ensures 2) (c .before .in-range2 .ensures 3)
     ∙ both-numbers (s .args .longitude) (s .args .latitude) (c .before .before .before .before .if1 .left) (c .before .before .before .if2 .left)
 
 pub read-spec : {M : Type 1} → statement M
@@ -44,7 +44,7 @@ read-spec =
     returns
     refuse-requires-2
     returns-2
-    axis-requires
-    axis-requires-2
+    in-range-requires
+    in-range-requires-2
     position-requires
     returns-3)

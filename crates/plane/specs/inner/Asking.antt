@@ -3,14 +3,18 @@
 use mathlib.Core.Bool.{Bool}
 use mathlib.Core.List.{List}
 use Prim.Native.Nat.{ℕ, _-_, _≤_, _<_}
+use lib.IntN.{ℤ}
 use lib.ListN.{length}
 use Rattle.grid.specs.declared.Place.{Place}
-use Rattle.grid.specs.Units.{HALF, QUARTER, Square}
+use Rattle.grid.specs.declared.Refusal.{Refusal}
+use Rattle.grid.specs.Units.{HALF, QUARTER, unit, Square}
 use Rattle.grid.specs.Splits.{splitAt}
 use Rattle.grid.specs.Answers.{Answer, accepted, refused}
 use Rattle.grid.specs.inner.Roads.{squareOf}
 use Rattle.plane.specs.declared.AskedLevel.{AskedLevel}
 use Rattle.plane.specs.declared.AskedLevel.the-variants as level
+use Rattle.plane.specs.declared.Standing.{Standing}
+use Rattle.plane.specs.declared.Standing.the-variants as standing
 use Rattle.plane.specs.declared.AskedPosition.{AskedPosition}
 use Rattle.plane.specs.declared.AskedPosition.the-variants as position
 
@@ -18,6 +22,11 @@ use Rattle.plane.specs.declared.AskedPosition.the-variants as position
 abbrev pub levelAsked : AskedLevel → Answer ℕ
 levelAsked (level.At l) = accepted l
 levelAsked (level.Refused r) = refused r
+
+-- the unit that a number stands for, or the refusal of a number outside its range
+abbrev pub standingAnswer : Refusal → Standing → Answer ℤ
+standingAnswer r (standing.At up x) = accepted (unit up x)
+standingAnswer r standing.Outside = refused r
 
 -- the square of the place that was asked for, or the refusal
 abbrev pub positionAsked : AskedPosition → Answer Square

@@ -2,6 +2,7 @@
 
 use super::{Family, Kind};
 use crate::checks::{show, Run};
+use hailgully_tests::arcseconds::arcseconds;
 use hailgully_tests::cases;
 use hailgully_tests::layers::height_cell;
 use hailgully_tests::plane::{self, listing, LENGTHS, POLAR_INDEX};
@@ -12,6 +13,7 @@ pub fn families() -> Vec<Family> {
     let own = |name, rounds, round| Family { name, kind: Kind::Own(rounds, round) };
     vec![
         own("own check: plane codes against the lists", 200_000, planes),
+        own("own check: 180 and 90 degrees against the lists", 20_000, ends),
         own("own check: space codes against the lists", 20_000, |run| spaces(run, Edition::Ours)),
         own("own check: space codes of edition 2 against binary digits", 20_000, |run| spaces(run, Edition::Theirs)),
         own("own check: reference codes against steps", 40_000, steps),
@@ -50,6 +52,28 @@ fn same_reading(run: &mut Run, code: &[u8], cell: Option<plane::PlaneCell>) {
         let code = show(code);
         format!("{code}: {quick:?}, by the lists {listed:?}, {cell:?}")
     });
+}
+
+/// Both upper ends of the ranges, in units and as readings, against the squares that Wish 2 names for them, by the lists.
+fn ends(run: &mut Run) {
+    let (longitude, latitude) = cases::anywhere(&mut run.random);
+    let level = run.random.between(1, 10);
+    for ((longitude, latitude), (west, south)) in [
+        ((1_327_104_000, latitude), (-1_327_104_000, latitude)),
+        ((longitude, 663_552_000), (longitude, 663_551_999)),
+        ((1_327_104_000, 663_552_000), (-1_327_104_000, 663_551_999)),
+    ] {
+        let mut line = [0; 20];
+        let written = plane::write(level, longitude, latitude, &mut line, 0);
+        let (listed, _) = listing::code(level as usize, west, south);
+        own(run, written == Ok(listed.len()) && line[..listed.len()] == listed, || {
+            let (one, other) = (show(&listed), show(&line));
+            format!("level {level} {longitude} {latitude}: {written:?} {other}, by the lists {one}")
+        });
+        let [east, north] = [longitude, latitude].map(|units| (units as f64 / 2048.0).to_bits());
+        let read = arcseconds(east, north);
+        own(run, read == Ok((longitude as i32, latitude as i32)), || format!("reading of {longitude} {latitude}: {read:?}"));
+    }
 }
 
 /// The space code put together from the listed plane code and the plain
@@ -99,7 +123,7 @@ fn steps(run: &mut Run) {
     let (mut west, mut south) = (i64::from(cell.west), i64::from(cell.south));
     for _ in 0..east.abs_diff(7) {
         let step = if east > 7 { 1 } else { -1 };
-        west = cases::wrap(west + step * i64::from(cell.width));
+        west = plane::wrap(west + step * i64::from(cell.width));
     }
     for _ in 0..north.abs_diff(7) {
         let step = if north > 7 { 1 } else { -1 };

@@ -3,11 +3,11 @@
 use super::{each_change, each_length, each_room, each_two, fit, fixed, part, random, read_about, Family};
 use crate::checks::Run;
 use hailgully_tests::cases::{self, Random};
-use hailgully_tests::plane::{write::finest, LATITUDE, LENGTHS, LONGITUDE};
+use hailgully_tests::plane::{write::finest, LATITUDE, LENGTHS, LONGITUDE, SOUTH};
 
 pub fn families() -> Vec<Family> {
     vec![
-        fixed("plane: the document's cases", 1, document),
+        fixed("plane: the documents' cases", 1, document),
         fixed("plane: edges by edges, all levels", 64, edges),
         fixed("plane: lines and places around the fit", 10, lines),
         fixed("plane: extreme numbers", 16, numbers),
@@ -28,7 +28,9 @@ fn document(run: &mut Run, _: u64) {
         run.plane_write(level, longitude, latitude, 20, 0);
         run.plane_read(&finest(longitude, latitude)[..LENGTHS[level as usize - 1]]);
     }
-    run.plane_write(1, LONGITUDE.1 + 1, 0, 20, 0);
+    for (longitude, latitude) in [(LONGITUDE.1, 0), (0, LATITUDE.1), (LONGITUDE.1, LATITUDE.1)] {
+        run.plane_write(1, longitude, latitude, 20, 0);
+    }
     for code in cases::DOCUMENT_CODES {
         run.plane_read(code.as_bytes());
     }
@@ -87,7 +89,7 @@ fn level_1_texts(run: &mut Run, piece: u64) {
 fn changes(run: &mut Run, piece: u64) {
     let mut squares = cases::places_of_each_kind();
     for _ in 0..3 {
-        squares.push((cases::random_longitude(&mut run.random), run.random.between(LATITUDE.0, LATITUDE.1)));
+        squares.push((cases::random_longitude(&mut run.random), run.random.between(SOUTH.0, SOUTH.1)));
         squares.push(cases::polar(&mut run.random));
     }
     let length = LENGTHS[piece as usize % 10];

@@ -2,8 +2,8 @@
 
 use super::{each_change, each_length, each_room, fit, fixed, part, random, read_about, Family};
 use crate::checks::Run;
-use hailgully_tests::cases::{self, wrap};
-use hailgully_tests::plane::{write::finest, DEGREE, LATITUDE, LENGTHS, POLAR_INDEX};
+use hailgully_tests::cases;
+use hailgully_tests::plane::{wrap, write::finest, DEGREE, LENGTHS, POLAR_INDEX, SOUTH};
 use hailgully_tests::reference::OFFSETS;
 
 pub fn families() -> Vec<Family> {
@@ -44,7 +44,7 @@ fn corners() -> Vec<(i64, i64)> {
 
 /// The square so many cells of this size away, kept within the latitudes.
 fn away((longitude, latitude): (i64, i64), size: i64, east: i64, north: i64) -> (i64, i64) {
-    let latitude = (latitude + north * size).clamp(LATITUDE.0, LATITUDE.1);
+    let latitude = (latitude + north * size).clamp(SOUTH.0, SOUTH.1);
     (wrap(longitude + east * size), latitude)
 }
 

@@ -3,9 +3,8 @@
 
 use super::{fixed, Family};
 use crate::checks::Run;
-use hailgully_tests::cases::wrap;
 use hailgully_tests::plane::listing::{self, Listed};
-use hailgully_tests::plane::{write, Region, LENGTHS};
+use hailgully_tests::plane::{wrap, write, Region, LENGTHS};
 use hailgully_tests::space::{self, Edition};
 
 pub fn families() -> Vec<Family> {

@@ -26,12 +26,6 @@ pub fn families() -> Vec<Family> {
     ]
 }
 
-/// Both ends of both editions' layers, one past each, and layers about the ground.
-fn ends() -> Vec<i64> {
-    let ends = Edition::BOTH.into_iter().flat_map(|edition| <[i64; 2]>::from(edition.layers()));
-    ends.flat_map(|end| [end - 1, end, end + 1]).chain([-1, 0, 1]).collect()
-}
-
 fn document(run: &mut Run, _: u64) {
     for edition in [1, 2] {
         run.space_write(edition, 10, (255_316_321, 277_488_284), 0, 32, 0);
@@ -41,7 +35,7 @@ fn document(run: &mut Run, _: u64) {
         run.space_write(edition, 4, (0, 0), 1_843_199, 15, 0);
         run.space_read(edition, b"N031A000000000E");
         for (level, length) in (1..).zip(LENGTHS) {
-            for layer in ends() {
+            for layer in cases::end_layers() {
                 run.space_write(edition, level, (0, 0), layer, length, 0);
             }
         }
