@@ -3,7 +3,7 @@
 use mathlib.Core.Path.{_≡_, refl, sym, ap, _∙_, subst}
 use mathlib.Core.Bool.{Bool, true, false, _||_, Bool·beq}
 use Prim.Native.Nat.{ℕ, zero, suc, _*_, _≤_, _<_}
-use native.Mathlib.Nat.{mul-comm, mul-right-comm, mul-pos, eq-of-mul-eq-mul-right, le-div-iff-mul-le, div-lt-iff-lt-mul, lt-irrefl}
+use native.Mathlib.Nat.{mul-comm, mul-right-comm, mul-pos, eq-of-mul-eq-mul-right, le-div-iff-mul-le, div-lt-iff-lt-mul, lt-irrefl, le-antisymm}
 use native.Mathlib.Omega.{arith}
 use borrow.Author.Tests.{ltb-true, ltb-false, eqb-true, eq-eqb, le-leb, lt-leb, leb-true, leb-false}
 use lib.IntN.{ℤ, pos}
@@ -29,9 +29,6 @@ below-size H true (suc n) d D h = div-lt-iff-lt-mul D .0 h
 past-size : (H : ℕ) (n d : ℕ) → 0 < H → 0 < d → H ≤ index (greatestWhole true n d) → H * d < n
 past-size H zero d P D h = absurd (omega (arith, P, h))
 past-size H (suc n) d P D h = let l : H * d ≤ n = le-div-iff-mul-le D .0 h in omega (arith, l)
-
-same-size : (a b : ℕ) → a ≤ b → b ≤ a → a ≡ b
-same-size a b h l = omega (arith, h, l)
 
 -- ---- an f64 that is the end, H / 2048, and the comparison with it
 
@@ -123,7 +120,7 @@ module _ (H : ℕ) (P : 0 < H) where
             go : (q : Bool) → leb n (H * down c) ≡ q → H * down c < n
             go true l =
                 let a : n ≤ H * down c = leb-true n (H * down c) l in
-                let i : 2048 * (m * up c) ≡ H * down c = same-size n (H * down c) a least in
+                let i : 2048 * (m * up c) ≡ H * down c = le-antisymm a least in
                 let f : eq (fin s m c) t ≡ true = end-equal (fin s m c) t v (z, mul-comm (m * up c) 2048 ∙ i) in
                 clash (cc)
             go false l = leb-false n (H * down c) l

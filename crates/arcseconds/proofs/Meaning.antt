@@ -3,8 +3,8 @@
 use mathlib.Core.Path.{_≡_, refl, sym, ap, ap₂, _∙_, subst}
 use mathlib.Core.Bool.{Bool, true, false, not, _||_}
 use mathlib.Core.Logic.{_⊎_, inl, inr}
-use Prim.Native.Nat.{ℕ, suc, _-_, _*_, _/_, _≤_, _<_}
-use native.Mathlib.Nat.{mul-comm, mul-le-mul-right}
+use Prim.Native.Nat.{ℕ, suc, _-_, _*_, _/_, _≤_}
+use native.Mathlib.Nat.{mul-comm, mul-le-mul-right, not-le-of-lt}
 use native.Mathlib.Omega.{arith}
 use borrow.Author.Tests.{leb-true, leb-false, le-leb}
 use lib.IntN.{ℤ, pos, negsuc, natAbs}
@@ -18,13 +18,10 @@ use Rattle.grid.proofs.Cut.{clash}
 use Rattle.arcseconds.specs.declared.Units.{Units}
 use Rattle.arcseconds.specs.Readings.{greatestWhole, readingOf, units, unitsAt, unitsOf, Floors, ReadsIn, Beyond, Why, eleven, two, three, position}
 use Rattle.arcseconds.specs.Boxes.{SecondsOf}
-use Rattle.arcseconds.proofs.Whole.{whole-same, whole-is, whole-index, floor-only, size-within, within-size, times}
+use Rattle.arcseconds.proofs.Whole.{whole-same, whole-is, whole-index, one-floor, size-within, within-size, times}
 use Rattle.arcseconds.proofs.Number.{decided, is-eleven}
 
 -- ---- one reading
-
-beyond-size : (n b : ℕ) → b < n → n ≤ b → ⊥
-beyond-size n b h l = omega (arith, h, l)
 
 module _ (k H : ℕ) where
   -- its whole units, which are the greatest not above it, where it lies in the range; or the refusal
@@ -44,7 +41,7 @@ module _ (k H : ℕ) where
           → ((u : ℤ) × (unless (leb n (H * down e)) (refusal k 0) (accepted w) ≡ accepted u) × ReadsIn H (fin s m e) × Floors (fin s m e) u)
           ⊎ ((unless (leb n (H * down e)) (refusal k 0) (accepted w) ≡ refused (refusal k 0)) × Beyond H (fin s m e))
       go true l = inl (w, rw l refl, size-within s n (H * down e) (leb-true n (H * down e) l), whole-is s n (down e) (down-pos e))
-      go false l = inr (rw l refl, λ h. beyond-size n (H * down e) (leb-false n (H * down e) l) (within-size s n (H * down e) (h .0) (h .1)))
+      go false l = inr (rw l refl, λ h. not-le-of-lt (leb-false n (H * down e) l) (within-size s n (H * down e) (h .0) (h .1)))
 
   -- a reading in the range has whole units
   reads-some : (x : Float) → ReadsIn H x → (u : ℤ) × (readingOf k H x ≡ accepted u)
@@ -56,7 +53,7 @@ module _ (k H : ℕ) where
   -- and they are no others
   pub reads-floor : (x : Float) (u : ℤ) → ReadsIn H x → Floors x u → readingOf k H x ≡ accepted u
   reads-floor x u r g = elim (ways x) [
-    | inl f ↦ f .1 ∙ ap accepted (floor-only x (f .0) u (f .3) g)
+    | inl f ↦ f .1 ∙ ap accepted (one-floor x (f .0) u (f .3) g)
     | inr f ↦ absurd (f .1 r)
   ]
 

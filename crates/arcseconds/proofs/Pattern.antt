@@ -43,7 +43,7 @@ use Rattle.arcseconds.specs.Readings.{greatestWhole}
 use Rattle.arcseconds.specs.inner.Axis.{indexBelow, indexedOf}
 use Rattle.arcseconds.proofs.Whole.{whole-same, whole-tiny, whole-index, times}
 
--- ---- a number in a range, and one outside it
+-- ---- a number whose outward index is below half, and one whose is not
 
 pub inside : (k H : ℕ) (u : ℤ) → index u < H → indexBelow k H u ≡ accepted u
 inside k H u h = ap (λ (t : Bool). unless t (refusal k 0) (accepted u)) (lt-ltb (index u) H h)

@@ -5,16 +5,16 @@ use mathlib.Core.Path.{_≡_, refl, sym, ap, ap₂, _∙_, subst}
 use mathlib.Core.Bool.{Bool}
 use mathlib.Core.List.{List}
 use mathlib.Core.Logic.{_↔_}
-use Prim.Native.Nat.{ℕ, _*_, _≤_, _<_}
-use native.Mathlib.Omega.{arith}
+use Prim.Native.Nat.{ℕ, _*_, _≤_}
 use lib.IntN.{ℤ, pos, negsuc, natAbs}
 use lib.Ieee.{Float, fin, binary64, up, down, isNan, ofBits}
 use lib.Ieee.Fits.{down-pos}
 use Rattle.grid.specs.declared.Cell.{Cell}
-use Rattle.grid.specs.Units.{HALF, QUARTER, index}
+use Rattle.grid.specs.Units.{HALF, QUARTER}
 use Rattle.grid.specs.Answers.{Answer, accepted, refused, refusal}
 use Rattle.grid.specs.Plane.{cellOf}
 use Rattle.grid.proofs.Cut.{clash}
+use Rattle.grid.proofs.Ends.{size-below}
 use Rattle.grid.proofs.Ranges.{plane-in-ranges}
 use Rattle.arcseconds.specs.declared.Units.{Units}
 use Rattle.arcseconds.specs.declared.UnitsRead.{UnitsRead}
@@ -24,20 +24,16 @@ use Rattle.arcseconds.specs.declared.BoxRead.{BoxRead}
 use Rattle.arcseconds.specs.declared.BoxRead.the-variants.{Found, Refused}
 use Rattle.arcseconds.specs.Readings.{greatestWhole, readingOf, units, unitsAt, unitsOf, unitsRead, Floors, Why}
 use Rattle.arcseconds.specs.Boxes.{SecondsOf, BoxOf, BoxSays}
-use Rattle.arcseconds.proofs.Whole.{whole-is, floor-only}
+use Rattle.arcseconds.proofs.Whole.{whole-is}
 use Rattle.arcseconds.proofs.Exact.{one-exactly}
 use Rattle.arcseconds.proofs.Meaning.{both-whole, why, so, seconds-whole}
 
 -- ---- the floor
 
--- each finite reading has whole units that are the greatest not above it
+-- each finite reading has whole units that are the greatest not above it; they are the only ones (`one-floor` in Whole.antt)
 pub a-floor : (s : Bool) (m : ℕ) (e : ℤ) → (u : ℤ) × Floors (fin s m e) u
 unfolding Floors
 a-floor s m e = (greatestWhole s (2048 * (m * up e)) (down e), whole-is s (2048 * (m * up e)) (down e) (down-pos e))
-
--- and no others
-pub one-floor : (x : Float) (u v : ℤ) → Floors x u → Floors x v → u ≡ v
-one-floor x u v f g = floor-only x u v f g
 
 -- ---- what is answered when
 
@@ -51,11 +47,6 @@ answered-exactly-when x y a = (λ h. subst (Why x y) h (why x y), so x y a)
 pub units-back : (u v : ℤ) (x y : Float) → natAbs u ≤ HALF → natAbs v ≤ QUARTER → SecondsOf u x → SecondsOf v y → unitsOf x y ≡ accepted (units u v)
 units-back u v x y a b p q = both-whole x y u v (seconds-whole 2 HALF u x a p) (seconds-whole 3 QUARTER v y b q)
 
--- a unit on the globe is a number of its range
-on-globe : (half : ℕ) (u : ℤ) → index u < half → natAbs u ≤ half
-on-globe half (pos n) h = omega (arith, h)
-on-globe half (negsuc n) h = h
-
 -- a box that a plane code gets has the west and south of the code's cell, which read back as the same units
 pub box-back : (w : List ℕ) (b : ArcBox) → BoxSays (cellOf w) (Found b) → (c : Cell) × (cellOf w ≡ accepted c) × (unitsOf (b .west) (b .south) ≡ accepted (units (c .west) (c .south)))
 unfolding BoxSays
@@ -64,7 +55,7 @@ box-back w b h = go (cellOf w) refl h
     go : (a : Answer Cell) → cellOf w ≡ a → BoxSays a (Found b) → (c : Cell) × (cellOf w ≡ accepted c) × (unitsOf (b .west) (b .south) ≡ accepted (units (c .west) (c .south)))
     go (accepted c) e v =
         let i = plane-in-ranges w c e in
-        (c, e, units-back (c .west) (c .south) (b .west) (b .south) (on-globe HALF (c .west) (i .west-in)) (on-globe QUARTER (c .south) (i .rows-in .begins-in)) (v .west-is .value) (v .south-is .value))
+        (c, e, units-back (c .west) (c .south) (b .west) (b .south) (size-below HALF (c .west) (i .west-in)) (size-below QUARTER (c .south) (i .rows-in .begins-in)) (v .west-is .value) (v .south-is .value))
     go (refused r) e v = absurd v
 
 -- ---- each contract allows one result

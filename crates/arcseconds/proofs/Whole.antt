@@ -155,13 +155,13 @@ whole-only true (suc n) d (negsuc k) D a b =
     ap negsuc (sym (div-eq-of-lt-le d (le-of-suc-le-suc (from-lt-neg n (k * d) (subst (λ (z : ℤ). negsuc n <ℤ z) (neg-times k d) b)))
     (subst (λ (x : ℕ). suc n ≤ x) (sym (up-one k d)) (from-le-neg (suc k * d) n a))))
 
--- ---- the floor of a reading is the only one
+-- ---- a reading has no two floors
 
-pub floor-only : (x : Float) (u v : ℤ) → Floors x u → Floors x v → u ≡ v
+pub one-floor : (x : Float) (u v : ℤ) → Floors x u → Floors x v → u ≡ v
 unfolding Floors
-floor-only nan u v f g = absurd f
-floor-only (inf s) u v f g = absurd f
-floor-only (fin s m e) u v f g =
+one-floor nan u v f g = absurd f
+one-floor (inf s) u v f g = absurd f
+one-floor (fin s m e) u v f g =
     whole-only s (2048 * (m * up e)) (down e) u (down-pos e) (f .0) (f .1)
     ∙ sym (whole-only s (2048 * (m * up e)) (down e) v (down-pos e) (g .0) (g .1))
 

@@ -3,7 +3,7 @@ use mathlib.Core.Path.{_≡_, refl, sym, ap, ap₂, _∙_, subst}
 use mathlib.Core.Bool.{Bool, true, false, cond}
 use Prim.Native.Nat.{ℕ, _-_, _*_, _≤_, _<_}
 use native.Mathlib.Omega.{arith}
-use native.Mathlib.Nat.{mul-one}
+use native.Mathlib.Nat.{mul-one, le-of-lt, lt-irrefl}
 use borrow.Author.Tests.{leb-true, le-leb, lt-leb, eqb-false, eq-eqb, ne-eqb}
 use lib.Dec.{leb, eqb}
 use lib.IntN.{ℤ, pos, negsuc, natAbs}
@@ -12,27 +12,26 @@ use Rattle.grid.specs.Units.{index, unit}
 use Rattle.grid.specs.Answers.{accepted, refused, unless}
 use Rattle.grid.specs.Ends.{standsFor, unitIn}
 use Rattle.grid.proofs.Answers.{unless-accepted, accepted-inj}
-use Rattle.grid.proofs.Cut.{clash}
 use Rattle.grid.proofs.PlaneLaws.{index-unit}
 
 -- the size of a number, as its range is tested
 size-in : (half n : ℕ) → leb n (half * 1) ≡ leb n half
 size-in half n = ap (leb n) (mul-one half)
 
-module _ (r : Refusal) (half : ℕ) (up : Bool) where
-  -- a number other than the end whose size is at most half stands for itself
-  own : (u : ℤ) → natAbs u ≤ half → (u ≡ pos half → ⊥) → unitIn r half up u ≡ accepted u
-  unfolding unitIn
-  own u h d = ap₂ (λ (t : Bool) (w : ℤ). unless t r (accepted w)) (size-in half (natAbs u) ∙ le-leb (natAbs u) half h) (stands u d)
-    where
-      stands : (u : ℤ) → (u ≡ pos half → ⊥) → standsFor half up u ≡ u
-      stands (pos n) d = ap (λ (t : Bool). cond t (unit up (half - 1)) (pos n)) (ne-eqb n half (λ e. d (ap pos e)))
-      stands (negsuc n) d = refl
+-- a unit of the globe is a number of the range
+pub size-below : (half : ℕ) (u : ℤ) → index u < half → natAbs u ≤ half
+size-below half (pos n) h = le-of-lt h
+size-below half (negsuc n) h = h
 
+module _ (r : Refusal) (half : ℕ) (up : Bool) where
   -- a number whose outward index is below half stands for itself
   pub unit-own : (u : ℤ) → index u < half → unitIn r half up u ≡ accepted u
-  unit-own (pos n) h = own (pos n) (omega (arith, h)) (λ e. let i : n ≡ half = ap index e in omega (arith, h, i))
-  unit-own (negsuc n) h = own (negsuc n) h (λ e. clash (cc))
+  unfolding unitIn
+  unit-own u h = ap₂ (λ (t : Bool) (w : ℤ). unless t r (accepted w)) (size-in half (natAbs u) ∙ le-leb (natAbs u) half (size-below half u h)) (stands u h)
+    where
+      stands : (u : ℤ) → index u < half → standsFor half up u ≡ u
+      stands (pos n) h = ap (λ (t : Bool). cond t (unit up (half - 1)) (pos n)) (ne-eqb n half (λ e. lt-irrefl half (subst (λ (k : ℕ). k < half) e h)))
+      stands (negsuc n) h = refl
 
   -- the upper end stands for the last unit of its side
   pub unit-end : unitIn r half up (pos half) ≡ accepted (unit up (half - 1))

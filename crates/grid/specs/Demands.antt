@@ -18,7 +18,7 @@ pub record Family : Type 1 where
   pub levels : ℕ  -- 1 to so many
   pub Point : Type 0
   pub Cell : Type 0
-  pub On : Point → Type 0  -- the point lies on the globe, a cube also within the layers
+  pub On : Point → Type 0  -- the point lies in the ranges
   pub Coded : ℕ → Point → Type 0  -- and has a code of that level
   pub Covers : Cell → Point → Type 0  -- the cell has the point
   pub level : Cell → ℕ
