@@ -11,7 +11,8 @@ use Rattle.grid.specs.Space.{spaceCodes, spaceCodeOf, spaceCellOf}
 use Rattle.plane.specs.Text.{levelIn, squareIn, planeText}
 use Rattle.plane.specs.inner.Lengths.{levelOf}
 use Rattle.space.specs.Space.{spaceText, layeredText}
-use Rattle.reference.specs.Offsets.{movedTo, between, spanIn}
+use Rattle.distances.specs.Distances.{between}
+use Rattle.reference.specs.Offsets.{movedTo, spanIn}
 use Rattle.reference.specs.Text.{fit, spelled, spanned, referenceText, targetOf, offsetIn, targetText}
 use Rattle.positions.specs.Cases.{given, said, cases}
 

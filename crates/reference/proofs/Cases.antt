@@ -11,7 +11,8 @@ use Rattle.grid.specs.Tree as Tree
 use Rattle.grid.specs.Answers as answers
 use Rattle.grid.specs.Codes.{codeIn, readIn}
 use Rattle.grid.specs.Plane.{codeOf, cellOf}
-use Rattle.reference.specs.Offsets.{movedTo, between, spanIn}
+use Rattle.distances.specs.Distances.{between}
+use Rattle.reference.specs.Offsets.{movedTo, spanIn}
 use Rattle.reference.specs.Text.{fit, spelled, spanned, referenceText, targetOf, offsetIn, targetText}
 
 -- a text's bytes

@@ -7,7 +7,7 @@ use mathlib.Core.Logic.{inl, inr}
 use Prim.Native.Nat.{ℕ, suc, _+_, _-_, _%_, _≤_, _<_, _∣_}
 use native.Mathlib.Omega.{arith}
 use lib.Dec.{ltb, leb}
-use lib.IntN.{ℤ, pos, negsuc}
+use lib.IntN.{ℤ}
 use borrow.Author.Tests.{ltb-true, leb-true, lt-ltb, le-ltb, le-leb}
 use Rattle.grid.specs.declared.Cell.{Cell}
 use Rattle.grid.specs.Units.{TURN, HALF, POLAR, index, Square, OnGlobe}
@@ -18,9 +18,12 @@ use Rattle.grid.specs.Plane.{codeOf, cellOf}
 use Rattle.grid.proofs.Cut.{and-true, and-make, below}
 use Rattle.grid.proofs.PlaneLaws.{index-longitudeAt}
 use Rattle.grid.proofs.Theorems.{plane-demands}
-use Rattle.reference.specs.Offsets.{offsetDigit, movedTo, between}
+use Rattle.distances.specs.Distances.{between}
+use Rattle.distances.proofs.Turning.{around-below}
+use Rattle.distances.proofs.Rising.{above-self}
+use Rattle.reference.specs.Offsets.{offsetDigit, movedTo}
 use Rattle.reference.specs.Text.{fit, targetSquare}
-use Rattle.reference.proofs.Numbers.{around-below, moved-below, around-moved, moved-whole, between-none, within-between}
+use Rattle.reference.proofs.Numbers.{moved-below, around-moved, moved-whole, between-none, within-between}
 use Rattle.reference.proofs.Ordinary.{Ordinary, even-level, cell-kind}
 
 -- ---- a base or a target
@@ -113,10 +116,6 @@ corner c = record { longitude = c .west; latitude = c .south }
 
 corner-on : (c : Cell) → Fit c → OnGlobe (corner c)
 corner-on c f = let s : index (c .south) < 648806400 = f .south-in in record { longitude-in = f .east .within; latitude-in = omega arith }
-
-above-self : (z : ℤ) → above z z ≡ 0
-above-self (pos n) = omega arith
-above-self (negsuc n) = omega arith
 
 corner-covered : (c : Cell) → Fit c → Covers c (corner c)
 corner-covered c f =

@@ -14,13 +14,11 @@ use Rattle.grid.specs.Cells.{around, Within}
 use Rattle.grid.specs.Plane.{longitudeAt}
 use Rattle.grid.proofs.Cut.{and-true}
 use Rattle.grid.proofs.PlaneLaws.{eastward-longitudeAt, index-longitudeAt}
-use Rattle.reference.specs.Offsets.{offsetDigit, offset, movedTo, moved, between, spanIn, spanOf}
+use Rattle.distances.specs.Distances.{between}
+use Rattle.distances.proofs.Turning.{around-below, around-on}
+use Rattle.reference.specs.Offsets.{offsetDigit, offset, movedTo, moved, spanIn, spanOf}
 
 -- ---- numbers and their remainders
-
-pub around-below : (z : ℤ) → around z < 2654208000
-around-below (pos n) = omega arith
-around-below (negsuc n) = omega arith
 
 around-eastward : (u : ℤ) → index u < 1327104000 → around u ≡ eastward u
 around-eastward (pos k) h = omega arith
@@ -69,14 +67,6 @@ digit-fits v h = elim (digit-ways v h) [
 unfoldable pub onward : ℕ → ℕ → ℕ
 onward size v = cond (ltb v 8) (v * size) (2654208000 - (v - 9) * size)
 
-on-forward : (z : ℤ) (p : ℕ) → p ≤ 57344 → around (z +ℤ pos p) ≡ (around z + p) % 2654208000
-on-forward (pos n) p h = omega arith
-on-forward (negsuc n) p h = go (ltb p (suc n)) refl
-  where
-    go : (q : Bool) → ltb p (suc n) ≡ q → around (cond q (negsuc (suc n - suc p)) (pos (p - suc n))) ≡ (2654207999 - n % 2654208000 + p) % 2654208000
-    go true e = let l : p < suc n = ltb-true p (suc n) e in omega arith
-    go false e = let l : suc n ≤ p = ltb-false p (suc n) e in omega arith
-
 on-back : (z : ℤ) (p : ℕ) → 0 < p → p ≤ 57344 → around (z +ℤ negℤ (pos p)) ≡ (around z + (2654208000 - p)) % 2654208000
 on-back z zero a h = absurd (omega arith)
 on-back (pos n) (suc p) a h = go (ltb n (suc p)) refl
@@ -118,7 +108,7 @@ module _ (size : ℕ) (some : 0 < size) (small : size ≤ 8192) where
   pub moved-on : (v : ℕ) (z : ℤ) → offsetDigit v ≡ true → movedTo size v z ≡ (around z + onward size v) % 2654208000
   unfolding movedTo onward
   moved-on v z h = elim (digit-ways v h) [
-    | inl a ↦ rw (lt-ltb v 8 a) (on-forward z (v * size) (up-to-seven v (omega arith)))
+    | inl a ↦ rw (lt-ltb v 8 a) (around-on z (v * size))
     | inr a ↦ (let l : 10 ≤ v = a .0 in let u : v ≤ 16 = a .1 in
         rw (le-ltb v 8 (omega arith), neg-mul (v - 9) size)
         (on-back z ((v - 9) * size) (at-least-one (v - 9) (omega arith)) (up-to-seven (v - 9) (omega arith))))

@@ -9,11 +9,10 @@ use native.Mathlib.Omega.{arith}
 use native.Mathlib.Nat.{div-le-self}
 use lib.Dec.{ltb, leb}
 use lib.IntN.{ℤ, pos, negsuc}
-use lib.Signed.{ltZ}
 use mir.Syntax.{w32}
 use mir.Val.{Fits, SFits, toZ, ofZ}
 use mir.Facts.{toZ-ofZ}
-use borrow.Author.Tests.{lt-ltb, le-ltb, le-leb, lt-leb, ltb-true, eq-eqb, ne-eqb}
+use borrow.Author.Tests.{lt-ltb, le-ltb, le-leb, lt-leb, eq-eqb, ne-eqb}
 use Rattle.grid.specs.declared.Cell.{Cell}
 use Rattle.grid.specs.declared.Place.{Place}
 use Rattle.grid.specs.declared.Refusal.{Refusal}
@@ -23,43 +22,13 @@ use Rattle.grid.specs.Answers.{Answer, accepted, refused, refusal, wrongCharact
 use Rattle.grid.specs.Cells.{around}
 use Rattle.grid.specs.Characters.{digitOf}
 use Rattle.grid.specs.Plane.{longitudeAt, codeOf}
-use Rattle.grid.proofs.Cut.{clash, and-true}
+use Rattle.grid.proofs.Cut.{and-true}
 use Rattle.grid.proofs.PlaneLaws.{index-unit, index-longitudeAt}
-use Rattle.reference.specs.Offsets.{offsetDigit, movedTo, between, spanIn, spanOf}
+use Rattle.reference.specs.Offsets.{offsetDigit, movedTo, spanIn, spanOf}
 use Rattle.reference.specs.Text.{fit, eastSpan, northSpan, referenceCode, spelled, spanned, targetSquare, Aim, targetOf, offsetIn}
 use Rattle.reference.specs.inner.Parts.{Known, Steps}
-use Rattle.reference.proofs.Numbers.{around-below, moved-below, digit-ways, digit-fits, onward, up-to-seven, at-least-one, moved-on}
+use Rattle.reference.proofs.Numbers.{moved-below, digit-ways, digit-fits, onward, up-to-seven, at-least-one, moved-on}
 use Rattle.reference.proofs.Corners.{fit-of}
-
--- ---- remainders
-
-pub small-index : (z : ℤ) → SFits w32 z → index z < 2147483648
-small-index (pos n) f = f .sfits
-small-index (negsuc n) f = f .sfits
-
-module _ (z : ℤ) (f : SFits w32 z) {r : ℕ} (e : r ≡ index (toZ w32 (ofZ w32 z))) where
-  index-of : r ≡ index z
-  index-of = e ∙ ap index (toZ-ofZ f)
-
-  pub below-turn : r ≤ 2654207999
-  below-turn = let i : r ≡ index z = index-of in let h : index z < 2147483648 = small-index z f in omega arith
-
-  pub negative : ltZ (toZ w32 (ofZ w32 z)) (pos 0) ≡ true → 2654207999 - r ≡ around z
-  negative t = go z index-of (small-index z f) (rw (toZ-ofZ f) at t)
-    where
-      go : (z : ℤ) → r ≡ index z → index z < 2147483648 → ltZ z (pos 0) ≡ true → 2654207999 - r ≡ around z
-      go (pos n) i h t = absurd (let l : n < 0 = ltb-true n 0 t in omega arith)
-      go (negsuc n) i h t = omega arith
-
-  pub positive : ltZ (toZ w32 (ofZ w32 z)) (pos 0) ≡ false → r ≡ around z
-  positive t = go z index-of (small-index z f) (rw (toZ-ofZ f) at t)
-    where
-      go : (z : ℤ) → r ≡ index z → index z < 2147483648 → ltZ z (pos 0) ≡ false → r ≡ around z
-      go (pos n) i h t = omega arith
-      go (negsuc n) i h t = clash (cc)
-
-pub remainder-below : (z : ℤ) {r : ℕ} → r ≡ around z → r < 2654208000
-remainder-below z e = let h : around z < 2654208000 = around-below z in omega arith
 
 -- ---- a base or a target
 
@@ -95,21 +64,6 @@ digit-high v h k = rw (le-ltb v 8 h, le-leb 10 v k) refl
 
 pub same-span : (size : ℕ) (a b : ℤ) {r : ℕ} → r ≡ spanOf size (toZ w32 (ofZ w32 a)) (toZ w32 (ofZ w32 b)) → SFits w32 a → SFits w32 b → r ≡ spanOf size a b
 same-span size a b e f g = rw (toZ-ofZ f, toZ-ofZ g) at e
-
-module _ (a b : ℤ) {x y : ℕ} (ex : x ≡ around a) (ey : y ≡ around b) where
-  pub apart-onward : x ≤ y → (y - x ≡ between a b) × (y - x < TURN)
-  unfolding between
-  apart-onward h =
-      let p : around a < 2654208000 = around-below a in
-      let q : around b < 2654208000 = around-below b in
-      (omega arith, omega arith)
-
-  pub apart-back : y < x → (y + (2654208000 - x) ≡ between a b) × (y + (2654208000 - x) < TURN)
-  unfolding between
-  apart-back h =
-      let p : around a < 2654208000 = around-below a in
-      let q : around b < 2654208000 = around-below b in
-      (omega arith, omega arith)
 
 -- ---- places
 

@@ -2,12 +2,13 @@
 -- Both are counted round a full turn. Longitudes a turn apart are the same; a latitude comes to a pole long before it has gone round.
 -- Assumes nothing.
 use mathlib.Core.Bool.{Bool, cond, _&&_, _||_}
-use Prim.Native.Nat.{ℕ, _+_, _-_, _/_, _%_}
+use Prim.Native.Nat.{ℕ, _+_, _-_, _/_}
 use lib.Dec.{ltb, leb}
 use lib.IntN.{ℤ, pos, negℤ, _+ℤ_, _*ℤ_}
 use Rattle.grid.specs.Units.{TURN}
 use Rattle.grid.specs.Cells.{around}
 use Rattle.grid.specs.Plane.{longitudeAt}
+use Rattle.distances.specs.Distances.{between}
 
 -- the characters of an offset are 0 to 7, and A to G (10 to 16) for -1 to -7
 abbrev pub offsetDigit : ℕ → Bool
@@ -24,10 +25,6 @@ movedTo size v z = around (z +ℤ offset v *ℤ pos size)
 -- that longitude or latitude, as a square has it
 abbrev pub moved : ℕ → ℕ → ℤ → ℤ
 moved size v z = longitudeAt (movedTo size v z)
-
--- the units from one number to another, eastward or northward
-unfoldable pub between : ℤ → ℤ → ℕ
-between a b = (around b + (TURN - around a)) % TURN
 
 -- the digit of so many units: the cells onward, or else the cells back; above 16 where they are beyond 7 both ways
 unfoldable pub spanIn : ℕ → ℕ → ℕ

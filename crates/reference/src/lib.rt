@@ -9,13 +9,13 @@ ghost use lib.ListN.{length};
 ghost use lib.Seq.{sets};
 ghost use Rattle.grid.specs.Units.{TURN, index};
 ghost use Rattle.grid.specs.inner.Roads.{squareOf};
-ghost use Rattle.grid.specs.Cells.{around};
 ghost use Rattle.grid.specs.Answers.{accepted, andThen, planeRead};
 ghost use Rattle.grid.specs.Laying.{laid, written};
 ghost use Rattle.grid.specs.Plane.{longitudeAt};
-ghost use Rattle.reference.specs.Offsets.{offsetDigit, movedTo, between, spanIn, spanOf};
+ghost use Rattle.reference.specs.Offsets.{offsetDigit, movedTo, spanIn, spanOf};
 ghost use Rattle.reference.specs.Text.{fit, referenceCode, spelled, spanned, related, referenceText, targetSquare, targetOf, offsetIn, aimed, targetText};
 ghost use Rattle.reference.specs.inner.Parts.{offsetAnswer, offsetText, Small, goalText, Layable, Known, AsRead, Steps};
+use distances::LAST;
 use grid::Cell;
 use grid::HALF;
 use grid::POLAR;
@@ -24,9 +24,6 @@ use grid::PlaneRead;
 use grid::Refusal;
 use grid::TURN;
 use grid::Written;
-
-// The last remainder by a full turn.
-const LAST: u32 = TURN - 1;
 
 // M and N as digits, or why there are none.
 enum Offset {
@@ -40,21 +37,7 @@ enum Goal {
     Refused(Refusal),
 }
 
-// ---- longitudes and latitudes
-
-// The outward index of a longitude or latitude.
-fn outward(z: i32) -> u32
-    ensures { λ r. ⌜ r ≡ index z ⌝ }
-{
-    if z < 0 { (-1 - z) as u32 } else { z as u32 }
-}
-
-// Its remainder by a full turn.
-fn remainder(z: i32) -> u32
-    ensures { λ r. ⌜ r ≡ around z ⌝ }
-{
-    if z < 0 { LAST - outward(z) } else { outward(z) }
-}
+// ---- bases and targets
 
 // A base or a target: level 5 or finer, and ordinary.
 fn fits(c: Cell) -> bool
@@ -63,7 +46,7 @@ fn fits(c: Cell) -> bool
     if c.level < 5 {
         return false;
     }
-    outward(c.south) < POLAR
+    distances::outward(c.south) < POLAR
 }
 
 // Both of them.
@@ -74,15 +57,6 @@ fn both_fit(b: Cell, t: Cell) -> bool
 }
 
 // ---- M and N
-
-// The units from one number to another, eastward or northward.
-fn apart(a: i32, b: i32) -> u32
-    ensures { λ r. ⌜ (r ≡ between a b) × (r < TURN) ⌝ }
-{
-    let x = remainder(a);
-    let y = remainder(b);
-    if x <= y { y - x } else { y + (TURN - x) }
-}
 
 // So many units as cells onward, or else as cells back.
 fn cells(size: u32, d: u32) -> u32
@@ -101,7 +75,7 @@ fn span(size: u32, a: i32, b: i32) -> u32
     requires { ⌜ 0 < size ⌝ }
     ensures { λ r. ⌜ r ≡ spanOf size a b ⌝ }
 {
-    cells(size, apart(a, b))
+    cells(size, distances::apart(a, b))
 }
 
 // Refusal 10, else M and N.
@@ -185,7 +159,7 @@ fn moved_to(size: u32, digit: u32, z: i32) -> u32
     requires { ⌜ (0 < size) × (size ≤ 8192) × (offsetDigit digit ≡ true) ⌝ }
     ensures { λ r. ⌜ (r ≡ movedTo size digit z) × (r < TURN) ⌝ }
 {
-    let a = remainder(z);
+    let a = distances::remainder(z);
     if digit < 8 {
         return on(a, digit * size);
     }

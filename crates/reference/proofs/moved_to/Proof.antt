@@ -4,7 +4,8 @@ use Prim.Native.Nat.{_<_, _≤_, _*_, _-_}
 use native.Mathlib.Omega.{arith}
 use mir.Facts.{toZ-ofZ}
 use Rattle.grid.specs.Cells.{around}
-use Rattle.reference.proofs.Parts.{remainder-below, near-small, far-digit, far-small, far-some, moved-near, moved-far}
+use Rattle.distances.proofs.Turning.{remainder-below}
+use Rattle.reference.proofs.Parts.{near-small, far-digit, far-small, far-some, moved-near, moved-far}
 use borrow.Author.Needs.{needs}
 use Rattle.reference.proofs.moved_to.Statement.{statement}
 use Rattle.reference.proofs.moved_to.Tie as tie

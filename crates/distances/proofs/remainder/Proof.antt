@@ -1,10 +1,10 @@
--- `reference::remainder` meets its contract. Assumes nothing.
+-- `distances::remainder` meets its contract. Assumes nothing.
 use Prim.Native.Nat.{_≤_}
 use native.Mathlib.Omega.{arith}
-use Rattle.reference.proofs.Parts.{below-turn, negative, positive}
+use Rattle.distances.proofs.Turning.{below-turn, negative, positive}
 use borrow.Author.Needs.{needs}
-use Rattle.reference.proofs.remainder.Statement.{statement}
-use Rattle.reference.proofs.remainder.Tie as tie
+use Rattle.distances.proofs.remainder.Statement.{statement}
+use Rattle.distances.proofs.remainder.Tie as tie
 
 outward-requires : tie.Need-outward-requires
 outward-requires c κs = search needs

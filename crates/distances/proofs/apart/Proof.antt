@@ -1,13 +1,13 @@
--- `reference::apart` meets its contract. Assumes nothing.
+-- `distances::apart` meets its contract. Assumes nothing.
 use mathlib.Core.Path.{_∙_, ap}
 use Prim.Native.Nat.{_<_}
 use native.Mathlib.Omega.{arith}
 use mir.Facts.{toZ-ofZ}
 use Rattle.grid.specs.Cells.{around}
-use Rattle.reference.proofs.Parts.{remainder-below, apart-onward, apart-back}
+use Rattle.distances.proofs.Turning.{remainder-below, apart-onward, apart-back}
 use borrow.Author.Needs.{needs}
-use Rattle.reference.proofs.apart.Statement.{statement}
-use Rattle.reference.proofs.apart.Tie as tie
+use Rattle.distances.proofs.apart.Statement.{statement}
+use Rattle.distances.proofs.apart.Tie as tie
 
 remainder-requires : tie.Need-remainder-requires
 remainder-requires c κs = search needs

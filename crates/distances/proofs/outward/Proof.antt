@@ -1,9 +1,9 @@
--- `reference::outward` meets its contract. Assumes nothing.
+-- `distances::outward` meets its contract. Assumes nothing.
 use mathlib.Core.Path.{ap}
 use lib.IntN.{natAbs}
 use Rattle.grid.proofs.Signed.{casts, flipped-fits, flipped-back, kept}
-use Rattle.reference.proofs.outward.Statement.{statement}
-use Rattle.reference.proofs.outward.Tie as tie
+use Rattle.distances.proofs.outward.Statement.{statement}
+use Rattle.distances.proofs.outward.Tie as tie
 
 sub-result : tie.Need-sub-result
 sub-result c = flipped-fits (c .before .fits .z) (c .if1 .taken)
