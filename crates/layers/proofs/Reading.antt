@@ -9,7 +9,7 @@ use native.Mathlib.Nat.{mul-div-right}
 use native.Mathlib.Numerals.{add-one}
 use lib.Dec.{ltb, eqb}
 use lib.ListN.{length, getD, take, drop, length-take, length-map, drop-of-length-le, List·getD-map}
-use lib.Seq.{drop-cons, getD-take}
+use lib.Seq.{drop-cons, getD-take, length-take-le}
 use borrow.Author.Tests.{lt-ltb, le-ltb, le-leb, lt-leb}
 use Rattle.grid.specs.Characters.{digitOf}
 use Rattle.grid.specs.inner.Roads.{DigitBelow}
@@ -20,8 +20,36 @@ use Rattle.grid.proofs.Laws.{shift-shift}
 use Rattle.grid.proofs.Characters.{told}
 use Rattle.layers.specs.declared.Height.{Height}
 use Rattle.layers.specs.Heights.{laterHeight, heightLevels, heightRead}
-use Rattle.layers.specs.inner.Steps.{heightOf, Fair, thicknessAt, Readable, BadAt, HeightFirst, heightRest, Upto}
+use Rattle.layers.specs.inner.Steps.{heightOf, Fair, thicknessAt, standing, Readable, BadAt, HeightFirst, heightRest, Upto}
 use Rattle.layers.proofs.Radices.{ten, product-fits, first-radix, later-radix, thick-top, thick-step}
+
+pub getD-map-at : (f : ℕ → ℕ) (l : List ℕ) (i : ℕ) → i < length l → getD (map f l) i 0 ≡ f (getD l i 0)
+getD-map-at f [] i h = absurd (omega arith)
+getD-map-at f (x ∷ l) zero h = refl
+getD-map-at f (x ∷ l) (suc i) h = getD-map-at f l i (omega arith)
+
+-- a level, and as many height characters as a code of it has
+pub record Sized (level : ℕ) (w : List ℕ) : Type 0 where
+  pub some-level : 1 ≤ level
+  pub ten-levels : level ≤ 10
+  pub exactly : length w ≡ 2 + level
+
+module _ {level : ℕ} {places code : List ℕ} (d : Readable level places code) where
+  abbrev all-places : List ℕ
+  all-places = map (λ p. getD code p 0) places
+
+  places-twelve : length all-places ≡ 12
+  places-twelve = length-map places (λ p. getD code p 0) ∙ d .twelve
+
+  -- those that stand in a code are as many
+  pub sized : Sized level (standing level places code)
+  sized = record { some-level = d .some-level; ten-levels = d .ten-levels; exactly = length-take-le (2 + level) all-places (omega (arith, places-twelve, d .ten-levels)) }
+
+  -- a digit read at one of those places
+  pub digit-at : {q v : ℕ} (i : ℕ) → i < 2 + level → DigitBelow q (getD code (getD places i 0) 0) v → DigitBelow q (getD (standing level places code) i 0) v
+  digit-at {q} {v} i h =
+      subst (λ (x : ℕ). DigitBelow q x v)
+      (sym (getD-take (2 + level) all-places i 0 h ∙ getD-map-at (λ p. getD code p 0) places i (omega (arith, d .twelve, d .ten-levels))))
 
 bad-read : {p : ℕ} {h : Height} → BadAt p h → heightOf h ≡ bad p
 bad-read b = rw (b .none, b .place) refl
@@ -95,7 +123,7 @@ as-told top r {x} {y} {z} {s} {a} {b} h i j k =
     ∙ told k (λ m. allChild top r (digitOf x ∷ digitOf y ∷ m ∷ [])) (guard 0 (ltb (digitOf x) 2) (guard 1 (ltb (10 * digitOf y) r) (bad 2)))
     (λ m n. rw (lt-leb m 9 (omega arith)) refl)
 
-pub started : (rs : List ℕ) (level : ℕ) (w : List ℕ) {s a b : ℕ} {h : Height} → Fair rs → Readable level (length w)
+pub started : (rs : List ℕ) (level : ℕ) (w : List ℕ) {s a b : ℕ} {h : Height} → Fair rs → Sized level w
     → DigitBelow 10 (getD w 0 0) s → DigitBelow 10 (getD w 1 0) a → DigitBelow 10 (getD w 2 0) b → HeightFirst rs s a b h → Upto rs level 1 w h
 unfolding heightRead follow
 started rs zero w e d i j k f = absurd (omega (arith, d .some-level))
@@ -121,7 +149,7 @@ level-at rs zero l e = absurd (omega arith)
 level-at [] (suc k) l e = clash (let t = e .test in cc)
 level-at (r ∷ rs) (suc k) l e = List·getD-map laterHeight rs k 0
 
-module _ (rs : List ℕ) (level k : ℕ) (w : List ℕ) (e : Fair rs) (from : 1 ≤ k) (to : k < 10) (d : Readable level (length w)) where
+module _ (rs : List ℕ) (level k : ℕ) (w : List ℕ) (e : Fair rs) (from : 1 ≤ k) (to : k < 10) (d : Sized level w) where
   -- the level's radix and digit
   abbrev q : ℕ
   q = getD rs k 0
@@ -216,7 +244,7 @@ module _ (rs : List ℕ) (level k : ℕ) (w : List ℕ) (e : Fair rs) (from : 1 
             }
 
 -- all of the code is read
-pub upto-all : (rs : List ℕ) (level : ℕ) (w : List ℕ) {h : Height} → Fair rs → Readable level (length w) → Upto rs level 10 w h → heightOf h ≡ heightRead rs level (map digitOf w)
+pub upto-all : (rs : List ℕ) (level : ℕ) (w : List ℕ) {h : Height} → Fair rs → Sized level w → Upto rs level 10 w h → heightOf h ≡ heightRead rs level (map digitOf w)
 upto-all rs level w {h} e d u = sym (u .whole ∙ go (heightOf h))
   where
     go : (x : Read Stack) → next 12 x (heightRest rs level 10 w) ≡ x

@@ -11,7 +11,7 @@ ghost use Rattle.grid.specs.Characters.{charOf, digitOf};
 ghost use Rattle.grid.specs.Layers.{editionIn, product, rise, sign, part, floorOf};
 ghost use Rattle.layers.specs.Heights.{askedOf, layerAsked, stackAnswer, heightAnswer, layersAnswer};
 ghost use Rattle.layers.specs.inner.Editions.{radicesOf, editionAsked};
-ghost use Rattle.layers.specs.inner.Steps.{Fair, thicknessAt, layerOf, heightDigits, cellsBelow, firstHeight, laterHeightAt, HeightWritable, heightOf, Readable, BadAt, HeightFirst, Upto};
+ghost use Rattle.layers.specs.inner.Steps.{Fair, thicknessAt, layerOf, heightDigits, cellsBelow, firstHeight, laterHeightAt, HeightWritable, heightOf, standing, Readable, BadAt, HeightFirst, Upto};
 use grid::Refusal;
 
 // The radices of edition 1, document 01's, and of edition 2, cut by bits (document 02, Wish 1); from the coarsest.
@@ -242,21 +242,21 @@ impl Height {
         }
     }
 
-    // After level 1 of the characters.
-    fn start(rs: [u32; 10], level: u32, digits: &[u8]) -> Height
-        requires { ⌜ Fair rs × Readable level (length (now digits)) ⌝ }
-        ensures { λ r. ⌜ Upto rs level 1 (now (digits .entry)) r ⌝ }
+    // After level 1 of the characters, which stand at these places of the code.
+    fn start(rs: [u32; 10], level: u32, places: [u8; 12], code: &[u8]) -> Height
+        requires { ⌜ Fair rs × Readable level places (now code) ⌝ }
+        ensures { λ r. ⌜ Upto rs level 1 (standing level places (now (code .entry))) r ⌝ }
     {
-        let s = grid::decimal_value(digits[0]);
-        let a = grid::decimal_value(digits[1]);
-        let b = grid::decimal_value(digits[2]);
+        let s = grid::decimal_value(code[places[0] as usize]);
+        let a = grid::decimal_value(code[places[1] as usize]);
+        let b = grid::decimal_value(code[places[2] as usize]);
         Height::first(rs, s, a, b)
     }
 
     // After the digit of level k + 1, where the code has it and all before it were allowed; else where it was.
-    fn next(self, rs: [u32; 10], level: u32, k: usize, digits: &[u8]) -> Height
-        requires { ⌜ Fair rs × (1 ≤ k) × (k < 10) × Readable level (length (now digits)) × Upto rs level k (now digits) self ⌝ }
-        ensures { λ r. ⌜ Upto rs level (k + 1) (now (digits .entry)) r ⌝ }
+    fn next(self, rs: [u32; 10], level: u32, k: usize, places: [u8; 12], code: &[u8]) -> Height
+        requires { ⌜ Fair rs × (1 ≤ k) × (k < 10) × Readable level places (now code) × Upto rs level k (standing level places (now code)) self ⌝ }
+        ensures { λ r. ⌜ Upto rs level (k + 1) (standing level places (now (code .entry))) r ⌝ }
     {
         if level as usize <= k {
             return self;
@@ -264,7 +264,7 @@ impl Height {
         if !self.good {
             return self;
         }
-        let v = grid::digit_below(rs[k], digits[k + 2]);
+        let v = grid::digit_below(rs[k], code[places[k + 2] as usize]);
         if rs[k] <= v {
             return refused(k + 2);
         }
@@ -291,29 +291,30 @@ impl Height {
 }
 
 // All the levels, over any radices.
-fn read_over(rs: [u32; 10], level: u32, digits: &[u8]) -> LayersRead
-    requires { ⌜ Fair rs × Readable level (length (now digits)) ⌝ }
-    ensures { λ r. ⌜ layersAnswer r ≡ heightAnswer rs level (map digitOf (now (digits .entry))) ⌝ }
+fn read_over(rs: [u32; 10], level: u32, places: [u8; 12], code: &[u8]) -> LayersRead
+    requires { ⌜ Fair rs × Readable level places (now code) ⌝ }
+    ensures { λ r. ⌜ layersAnswer r ≡ heightAnswer rs level (map digitOf (standing level places (now (code .entry)))) ⌝ }
 {
-    Height::start(rs, level, digits)
-        .next(rs, level, 1, digits)
-        .next(rs, level, 2, digits)
-        .next(rs, level, 3, digits)
-        .next(rs, level, 4, digits)
-        .next(rs, level, 5, digits)
-        .next(rs, level, 6, digits)
-        .next(rs, level, 7, digits)
-        .next(rs, level, 8, digits)
-        .next(rs, level, 9, digits)
+    Height::start(rs, level, places, code)
+        .next(rs, level, 1, places, code)
+        .next(rs, level, 2, places, code)
+        .next(rs, level, 3, places, code)
+        .next(rs, level, 4, places, code)
+        .next(rs, level, 5, places, code)
+        .next(rs, level, 6, places, code)
+        .next(rs, level, 7, places, code)
+        .next(rs, level, 8, places, code)
+        .next(rs, level, 9, places, code)
         .answer()
 }
 
-// The layers that the height characters of a code of a level lead to, or refusal 7 with the place of the first that is not allowed, among these alone.
-pub fn read(second: bool, level: u32, digits: &[u8]) -> LayersRead
-    requires { ⌜ Readable level (length (now digits)) ⌝ }
-    ensures { λ r. ⌜ layersAnswer r ≡ heightAnswer (radicesOf second) level (map digitOf (now (digits .entry))) ⌝ }
+// The layers that the height characters of a code of a level lead to, which stand at these places of it; or refusal 7 with the place of the first that is
+// not allowed, among these alone.
+pub fn read(second: bool, level: u32, places: [u8; 12], code: &[u8]) -> LayersRead
+    requires { ⌜ Readable level places (now code) ⌝ }
+    ensures { λ r. ⌜ layersAnswer r ≡ heightAnswer (radicesOf second) level (map digitOf (standing level places (now (code .entry)))) ⌝ }
 {
-    read_over(radices_of(second), level, digits)
+    read_over(radices_of(second), level, places, code)
 }
 
 // ---- the lower face

@@ -7,33 +7,36 @@ use mathlib.Core.Option.{Option, some, none}
 use Prim.Native.Nat.{ℕ, zero, suc, _+_, _-_, _≤_, _<_, min}
 use native.Mathlib.Omega.{arith}
 use lib.Dec.{ltb, eqb}
+use lib.IntN.{ℤ}
 use lib.ListN.{length, take, getD, length-map}
 use borrow.Author.Tests.{ltb-true, ltb-false, eqb-true}
 use Rattle.grid.specs.declared.Cell.{Cell}
 use Rattle.grid.specs.declared.SpaceCell.{SpaceCell}
+use Rattle.grid.specs.declared.Refusal.{Refusal}
 use Rattle.grid.specs.Characters.{digitOf}
 use Rattle.grid.specs.Tree.{Read, ok, bad, follow}
-use Rattle.grid.specs.Answers.{Answer, refused, wrongLength, wrongCharacter}
+use Rattle.grid.specs.Answers.{Answer, accepted, refused, wrongLength, wrongCharacter}
 use Rattle.grid.specs.Codes.{placeIn, answer, answerAt, readIn}
 use Rattle.grid.specs.Splits.{splits, splitAt}
 use Rattle.grid.specs.Plane.{Node, globe, plane, planeCodes, cellOf}
-use Rattle.grid.specs.Layers.{ours, Stack, all, layers}
+use Rattle.grid.specs.Layers.{ours, Stack, all, part, layers}
 use Rattle.grid.specs.Space.{space, spaceCodes, spaceCellOf, spaceLengths}
-use Rattle.grid.proofs.Cut.{below}
+use Rattle.grid.proofs.Cut.{clash, allBelow, below}
 use Rattle.grid.proofs.Laws.{total, follow-ends}
 use Rattle.grid.proofs.PlaneLaws.{laws, splits-fit}
 use Rattle.grid.proofs.LayerLaws.{layer-laws}
 use Rattle.grid.proofs.Families.{level-length, length-level}
 use Rattle.grid.proofs.Theorems.{plane-sound, ours-fair, space-sound}
-use Rattle.layers.specs.declared.LayersRead.{LayersRead}
-use Rattle.layers.specs.declared.LayersRead.the-variants as layers-as
-use Rattle.layers.specs.Heights.{heightLevels, heightRead, stackAnswer, heightAnswer, layersAnswer}
+use Rattle.layers.specs.Heights.{heightLevels, heightRead, stackAnswer, heightAnswer}
 use Rattle.layers.specs.inner.Editions.{radicesOf}
+use Rattle.layers.specs.inner.Steps.{standing}
 use Rattle.layers.proofs.Radices.{edition-fair}
 use Rattle.layers.proofs.Inside.{levels-fit, read-inside}
 use Rattle.plane.specs.inner.Lengths.{orZero}
-use Rattle.space.specs.inner.Weave.{Strand, firsts, seconds, placeTwo, together}
-use Rattle.space.specs.inner.Parts.{spaceLevelOf, tenStrands, planePart, heightPart, planePlace, heightPlace, earlier, joinedAnswer, Lying}
+use Rattle.space.specs.inner.Weave.{Strand, strandPlace, firsts, seconds, placeTwo, together}
+use Rattle.space.specs.inner.Asking.{SpaceRoom}
+use Rattle.space.specs.inner.Parts.{spaceLevelOf, tenStrands, planePart, heightPart, planePlace, heightPlace, earlier, heightsAnswer, joinedAnswer}
+use Rattle.space.proofs.Tables.{heightPlaces}
 use Rattle.space.proofs.Weaving.{sliced-one, sliced-two, parts-map, follow-woven}
 use Rattle.space.proofs.Parts.{
   topOf,
@@ -129,7 +132,7 @@ module _ (second : Bool) (l : ℕ) (low : 1 ≤ l) (high : l ≤ 10) where
 
   -- the two readings, as answers and together
   as-joined : (ra : Read Node) (rb : Read Stack) → ((p : ℕ) → ra ≡ bad p → p < splitAt (l - 1) .length) → ((q : ℕ) → rb ≡ bad q → q < 2 + l)
-      → unfold planeCodes spaceCodes in (answer (spaceCodes rs) l (together (take l tenStrands) ra rb) ≡ joinedAnswer top (answer planeCodes l ra) (stackAnswer rb))
+      → unfold planeCodes spaceCodes in (answer (spaceCodes rs) l (together (take l tenStrands) ra rb) ≡ joinedAnswer (answer planeCodes l ra) (heightsAnswer top (stackAnswer rb)))
   unfolding planeCodes spaceCodes
   as-joined (ok n) (ok m) ha hb = refl
   as-joined (ok n) (bad q) ha hb = ap (λ (x : ℕ). refused (wrongCharacter x)) (height-place l C q (hb q refl))
@@ -157,7 +160,7 @@ module _ (second : Bool) (l : ℕ) (low : 1 ≤ l) (high : l ≤ 10) where
         ∙ rw (plane-levels second l, height-levels second l, level-strands second l, parts-map sliced-one digitOf S w, parts-map sliced-two digitOf S w) refl
 
     pub read-parts : placeIn (length w) 1 spaceLengths ≡ some l
-        → joinedAnswer top (cellOf (take (splitAt (l - 1) .length) (planePart w))) (heightAnswer rs l (map digitOf (take (2 + l) (heightPart w)))) ≡ spaceCellOf rs w
+        → joinedAnswer (cellOf (take (splitAt (l - 1) .length) (planePart w))) (heightsAnswer top (heightAnswer rs l (map digitOf (take (2 + l) (heightPart w))))) ≡ spaceCellOf rs w
     unfolding spaceCellOf readIn spaceCodes planeCodes
     read-parts q =
         let a = plane-same l C w long in
@@ -170,13 +173,33 @@ module _ (second : Bool) (l : ℕ) (low : 1 ≤ l) (high : l ≤ 10) where
         (λ p e. height-inside (map digitOf fb) p (length-map fb digitOf ∙ height-long l C w long) e)))
 
 -- the reader's answer, from its two parts' answers
-pub read-joined : (second : Bool) (w : List ℕ) (l : ℕ) → Leveled (length w) l → {r : Answer SpaceCell} {a : Answer Cell} {b : Answer Stack} → r ≡ joinedAnswer (topOf second) a b
-    → a ≡ cellOf (take (splitAt (l - 1) .length) (planePart w)) → b ≡ heightAnswer (radicesOf second) l (map digitOf (take (2 + l) (heightPart w))) → r ≡ spaceCellOf (radicesOf second) w
+pub read-joined : (second : Bool) (w : List ℕ) (l : ℕ) → Leveled (length w) l → {r : Answer SpaceCell} {a : Answer Cell} {b : Answer (ℤ × ℕ)} → r ≡ joinedAnswer a b
+    → a ≡ cellOf (take (splitAt (l - 1) .length) (planePart w)) → b ≡ heightsAnswer (topOf second) (heightAnswer (radicesOf second) l (map digitOf (take (2 + l) (heightPart w)))) → r ≡ spaceCellOf (radicesOf second) w
 read-joined second w l t {a = a} {b = b} e f g =
-    e ∙ ap (λ x. joinedAnswer (topOf second) x b) f ∙ ap (λ x. joinedAnswer (topOf second) (cellOf (take (splitAt (l - 1) .length) (planePart w))) x) g
+    e ∙ ap (λ x. joinedAnswer x b) f ∙ ap (λ x. joinedAnswer (cellOf (take (splitAt (l - 1) .length) (planePart w))) x) g
     ∙ read-parts second l (t .low) (t .high) w (t .long) (t .place)
 
+-- ---- the height characters where they stand
+
+-- a code has the places of its level
+pub height-reach : {level : ℕ} {code : List ℕ} → SpaceRoom level code → (i : ℕ) → i < 2 + level → getD heightPlaces i 0 < length code
+height-reach {level} room i h =
+    let low = room .level-low in
+    let within : ℕ → ℕ → Bool = λ l i. ltb (getD heightPlaces i 0) (getD spaceLengths l 0) in
+    let t : allBelow (within (level - 1)) (3 + (level - 1)) ≡ true = below (λ l. allBelow (within l) (3 + l)) 10 (level - 1) refl (omega (arith, low, room .level-high)) in
+    let w : getD heightPlaces i 0 < getD spaceLengths (level - 1) 0 = ltb-true _ _ (below (within (level - 1)) (3 + (level - 1)) i t (omega (arith, low))) in
+    omega (arith, room .room)
+
+-- what stands there is the height part
+pub height-standing : (level : ℕ) (code : List ℕ) → standing level heightPlaces code ≡ take (2 + level) (heightPart code)
+unfolding strandPlace
+height-standing level code = refl
+
 -- layers that were read lie in their range
-pub lying : (second : Bool) (l : ℕ) (ds : List ℕ) (h : LayersRead) → layersAnswer h ≡ heightAnswer (radicesOf second) l ds → Lying (topOf second) h
-lying second l ds (layers-as.Found above low thick) e = let r = read-inside (radicesOf second) l ds (edition-fair second) (sym e) in omega (arith, r .0, r .1)
-lying second l ds (layers-as.Refused q) e = tt
+pub lying : (second : Bool) (l : ℕ) (ds : List ℕ) {above : Bool} {low thick : ℕ} → accepted (part above low thick) ≡ heightAnswer (radicesOf second) l ds → low < topOf second
+lying second l ds e = let r = read-inside (radicesOf second) l ds (edition-fair second) (sym e) in omega (arith, r .0, r .1)
+
+-- a bad height character, at its place in the space code
+pub height-bad : (top : ℕ) (x : Read Stack) {q : Refusal} → refused q ≡ stackAnswer x → refused (wrongCharacter (heightPlace (q .place))) ≡ heightsAnswer top (stackAnswer x)
+height-bad top (ok n) e = clash (cc)
+height-bad top (bad p) {q} e = let z : q ≡ wrongCharacter p = cc in rw z refl

@@ -13,6 +13,7 @@ use Rattle.grid.specs.Splits.{splitAt}
 use Rattle.grid.proofs.Cut.{Entry, tabled, below}
 use Rattle.grid.proofs.Lengths.{no-place}
 use Rattle.plane.specs.inner.Lengths.{orZero}
+use Rattle.layers.proofs.Reading.{getD-map-at}
 use Rattle.space.specs.inner.Weave.{strandPlace}
 use Rattle.space.specs.inner.Parts.{spaceLevelOf, countFrom, planePlace, heightPlace}
 
@@ -73,11 +74,6 @@ pub count-at : (k n i : ℕ) → i < n → getD (countFrom k n) i 0 ≡ k + i
 count-at k zero i h = absurd (omega arith)
 count-at k (suc n) zero h = omega arith
 count-at k (suc n) (suc i) h = count-at (suc k) n i (omega arith) ∙ omega arith
-
-getD-map-at : (f : ℕ → ℕ) (l : List ℕ) (i : ℕ) → i < length l → getD (map f l) i 0 ≡ f (getD l i 0)
-getD-map-at f [] i h = absurd (omega arith)
-getD-map-at f (x ∷ l) zero h = refl
-getD-map-at f (x ∷ l) (suc i) h = getD-map-at f l i (omega arith)
 
 -- the element p of a list that is given place by place
 pub given-at : (f : ℕ → ℕ) (n p : ℕ) → p < n → getD (map f (countFrom 0 n)) p 0 ≡ f p

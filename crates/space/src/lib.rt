@@ -1,28 +1,29 @@
 // Space codes of levels 1 to 10 (document 01), in two editions (document 02, Wish 1): from position and layer to code, and from code to space cell.
-// A space code is woven of its plane code and its height characters: both are built apart, and then laid into the line; a reader takes them apart.
+// A space code is woven of its plane code and its height characters: both are built apart, and then laid into the line; a reader takes the plane code
+// out of it, and reads the height characters where they stand.
 
 ghost use mathlib.Core.Path.{_≡_};
 ghost use mathlib.Core.List.{map};
-ghost use Prim.Native.Nat.{ℕ, _+_, _-_, _≤_, _<_};
+ghost use Prim.Native.Nat.{_+_, _-_, _≤_, _<_};
 ghost use lib.ListN.{length, getD, take};
 ghost use lib.Seq.{sets};
 ghost use Rattle.grid.specs.Units.{HALF, QUARTER};
-ghost use Rattle.grid.specs.Answers.{accepted, refused, planeRead};
+ghost use Rattle.grid.specs.Answers.{accepted, refused, planeRead, wrongCharacter};
 ghost use Rattle.grid.specs.Laying.{laid, written};
 ghost use Rattle.grid.specs.Space.{spaceCodeOf, spaceCellOf, spaceCellIn, spaceLengths};
 ghost use Rattle.grid.specs.inner.Roads.{squareOf};
 ghost use Rattle.grid.specs.Characters.{digitOf};
 ghost use Rattle.grid.specs.Splits.{splitAt};
 ghost use Rattle.grid.specs.Plane.{cellOf};
-ghost use Rattle.grid.specs.Layers.{product, part};
-ghost use Rattle.layers.specs.Heights.{heightAnswer, layersAnswer};
+ghost use Rattle.grid.specs.Layers.{product};
+ghost use Rattle.layers.specs.Heights.{heightAnswer};
 ghost use Rattle.layers.specs.inner.Editions.{radicesOf};
 ghost use Rattle.layers.specs.inner.Steps.{layerOf};
 ghost use Rattle.space.specs.inner.Weave.{spread, stored};
 ghost use lib.Dec.{ltb};
 ghost use Rattle.space.specs.Space.{layeredText, spaceTextAt, spaceTextIn, spaceText, spaceRead};
 ghost use Rattle.space.specs.inner.Asking.{SpaceFits, SpaceRoom};
-ghost use Rattle.space.specs.inner.Parts.{spaceLevelOf, planePart, heightPart, planePlace, heightPlace, earlier, joinedAnswer, Lying};
+ghost use Rattle.space.specs.inner.Parts.{spaceLevelOf, planePart, heightPart, planePlace, heightPlace, earlier, heightsAnswer, heightsRead, joinedAnswer};
 use grid::Cell;
 use grid::Place;
 use grid::PlaneRead;
@@ -39,6 +40,12 @@ use plane::AskedPosition;
 pub enum SpaceRead {
     Found(SpaceCell),
     Refused(Refusal),
+}
+
+// What the height characters of a space code lead to: the lowest layer and how many there are, or the place of the first bad one in the space code.
+enum Heights {
+    Found(i32, u32),
+    Bad(usize),
 }
 
 // The place n holds the level of the space codes that are n bytes long, 0 where there is none.
@@ -203,49 +210,6 @@ fn plane_part(level: u32, code: &[u8], part: &mut [u8])
     plane_take_two(level, 7, code, 14, part);
     plane_take_two(level, 8, code, 16, part);
     plane_take_two(level, 9, code, 18, part);
-}
-
-// The height character i, from its place in a space code; and that one and the next.
-fn height_take(level: u32, k: u32, code: &[u8], i: usize, part: &mut [u8])
-    requires { ⌜ (k < level → heightPlace i < length (now code)) × (i < length (now part)) ⌝ }
-    ensures { λ _. ⌜ now (part .exit) ≡ stored (ltb k level) i (getD (now (code .entry)) (heightPlace i) 0) (now (part .entry)) ⌝ }
-{
-    one(level, k, code, height_place(i), part, i);
-}
-
-fn height_take_two(level: u32, k: u32, code: &[u8], i: usize, part: &mut [u8])
-    requires { ⌜ (k < level → heightPlace i < length (now code)) × (k < level → heightPlace (i + 1) < length (now code)) × (i + 1 < length (now part)) ⌝ }
-    ensures { λ _. ⌜ now (part .exit) ≡ stored (ltb k level) (i + 1) (getD (now (code .entry)) (heightPlace (i + 1)) 0) (stored (ltb k level) i (getD (now (code .entry)) (heightPlace i) 0) (now (part .entry))) ⌝ }
-{
-    let next = i + 1;
-    two(
-        level,
-        k,
-        code,
-        height_place(i),
-        height_place(next),
-        part,
-        i,
-        next,
-    );
-}
-
-// The height characters of a space code of a level, from the part's first byte on.
-fn height_part(level: u32, code: &[u8], part: &mut [u8])
-    requires { ⌜ SpaceRoom level (now code) × (length (now part) ≡ 12) ⌝ }
-    ensures { λ _. ⌜ take (2 + level) (now (part .exit)) ≡ take (2 + level) (heightPart (now (code .entry))) ⌝ }
-{
-    height_take(level, 0, code, 0, part);
-    height_take_two(level, 0, code, 1, part);
-    height_take(level, 1, code, 3, part);
-    height_take(level, 2, code, 4, part);
-    height_take(level, 3, code, 5, part);
-    height_take(level, 4, code, 6, part);
-    height_take(level, 5, code, 7, part);
-    height_take(level, 6, code, 8, part);
-    height_take(level, 7, code, 9, part);
-    height_take(level, 8, code, 10, part);
-    height_take(level, 9, code, 11, part);
 }
 
 // ---- writing
@@ -451,14 +415,13 @@ fn earlier(r: Refusal, q: Refusal) -> Refusal
 }
 
 // The plane's answer over layers that were read: the cell with them, or the bad plane character.
-fn over_layers(second: bool, a: PlaneRead, above: bool, low: u32, thick: u32) -> SpaceRead
-    requires { ⌜ low < product (radicesOf second) ⌝ }
-    ensures { λ r. ⌜ spaceRead r ≡ joinedAnswer (product (radicesOf second)) (planeRead a) (accepted (part above low thick)) ⌝ }
+fn over_layers(a: PlaneRead, floor: i32, thick: u32) -> SpaceRead
+    ensures { λ r. ⌜ spaceRead r ≡ joinedAnswer (planeRead a) (accepted (floor, thick)) ⌝ }
 {
     match a {
         PlaneRead::Found(c) => SpaceRead::Found(SpaceCell {
             cell: c,
-            floor: layers::floor(second, above, low),
+            floor: floor,
             thickness: thick,
         }),
         PlaneRead::Refused(r) => SpaceRead::Refused(grid::at_place(plane_place(r.place), r)),
@@ -466,10 +429,10 @@ fn over_layers(second: bool, a: PlaneRead, above: bool, low: u32, thick: u32) ->
 }
 
 // A bad height character, unless a bad plane character stands before it.
-fn over_bad(a: PlaneRead, q: Refusal) -> SpaceRead
-    ensures { λ r. ⌜ ((top : ℕ) → spaceRead r ≡ joinedAnswer top (planeRead a) (refused q)) ⌝ }
+fn over_bad(a: PlaneRead, place: usize) -> SpaceRead
+    ensures { λ r. ⌜ spaceRead r ≡ joinedAnswer (planeRead a) (refused (wrongCharacter place)) ⌝ }
 {
-    let high = grid::at_place(height_place(q.place), q);
+    let high = grid::wrong_character(place);
     match a {
         PlaneRead::Found(c) => SpaceRead::Refused(high),
         PlaneRead::Refused(r) => SpaceRead::Refused(earlier(
@@ -480,13 +443,12 @@ fn over_bad(a: PlaneRead, q: Refusal) -> SpaceRead
 }
 
 // Both answers together.
-fn joined(second: bool, a: PlaneRead, h: LayersRead) -> SpaceRead
-    requires { ⌜ Lying (product (radicesOf second)) h ⌝ }
-    ensures { λ r. ⌜ spaceRead r ≡ joinedAnswer (product (radicesOf second)) (planeRead a) (layersAnswer h) ⌝ }
+fn joined(a: PlaneRead, h: Heights) -> SpaceRead
+    ensures { λ r. ⌜ spaceRead r ≡ joinedAnswer (planeRead a) (heightsRead h) ⌝ }
 {
     match h {
-        LayersRead::Found(above, low, thick) => over_layers(second, a, above, low, thick),
-        LayersRead::Refused(q) => over_bad(a, q),
+        Heights::Found(floor, thick) => over_layers(a, floor, thick),
+        Heights::Bad(place) => over_bad(a, place),
     }
 }
 
@@ -501,15 +463,17 @@ fn plane_of(level: u32, code: &[u8]) -> PlaneRead
     plane::read(&p[..n])
 }
 
-// The height characters of a space code, read.
-fn height_of(second: bool, level: u32, code: &[u8]) -> LayersRead
+// The height characters of a space code, read where they stand.
+fn height_of(second: bool, level: u32, code: &[u8]) -> Heights
     requires { ⌜ SpaceRoom level (now code) ⌝ }
-    ensures { λ r. ⌜ layersAnswer r ≡ heightAnswer (radicesOf second) level (map digitOf (take (2 + level) (heightPart (now (code .entry))))) ⌝ }
+    ensures { λ r. ⌜ heightsRead r ≡ heightsAnswer (product (radicesOf second)) (heightAnswer (radicesOf second) level (map digitOf (take (2 + level) (heightPart (now (code .entry)))))) ⌝ }
 {
-    let mut h = [0u8; 12];
-    height_part(level, code, &mut h);
-    let n = 2 + level as usize;
-    layers::read(second, level, &h[..n])
+    match layers::read(second, level, HEIGHT_PLACES, code) {
+        LayersRead::Found(above, low, thick) => {
+            Heights::Found(layers::floor(second, above, low), thick)
+        }
+        LayersRead::Refused(q) => Heights::Bad(height_place(q.place)),
+    }
 }
 
 // The space cell of a space code of an edition: refusals 6 and 7, in that order.
@@ -520,9 +484,10 @@ fn read_in(second: bool, code: &[u8]) -> SpaceRead
     if level == 0 {
         return SpaceRead::Refused(grid::refuse(6));
     }
-    let a = plane_of(level, code);
+    // The height first: its answer stays in registers while the plane code is read.
     let h = height_of(second, level, code);
-    joined(second, a, h)
+    let a = plane_of(level, code);
+    joined(a, h)
 }
 
 // The space cell of a space code of an edition by its number. Refusals 13, 6 and 7, in that order; 7 has the place of the first bad character in the

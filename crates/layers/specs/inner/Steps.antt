@@ -71,11 +71,16 @@ laterHeightAt rs level k n = cond (ltb k level) (charOf (n % getD rs k 0) ∷ []
 abbrev pub heightOf : Height → Read Stack
 heightOf h = cond (h .good) (ok (part (h .above) (h .low) (h .thick))) (bad (h .place))
 
--- a level, and as many height characters as a code of it has
-pub record Readable (level n : ℕ) : Type 0 where
+-- the height characters of a code of a level, which stand at these places of it
+abbrev pub standing : ℕ → List ℕ → List ℕ → List ℕ
+standing level places code = take (2 + level) (map (λ p. getD code p 0) places)
+
+-- a level, and a code with those places
+pub record Readable (level : ℕ) (places code : List ℕ) : Type 0 where
   pub some-level : 1 ≤ level
   pub ten-levels : level ≤ 10
-  pub exactly : n ≡ 2 + level
+  pub twelve : length places ≡ 12
+  pub reach : (i : ℕ) → i < 2 + level → getD places i 0 < length code
 
 -- the digit at place p is not allowed
 pub record BadAt (p : ℕ) (h : Height) : Type 0 where

@@ -1,61 +1,67 @@
 -- `space::height_of` meets its contract. Assumes nothing.
-use mathlib.Core.Path.{_≡_, sym, _∙_, ap}
+use mathlib.Core.Path.{_≡_, refl, sym, _∙_, ap}
 use mathlib.Core.List.{List, map}
-use Prim.Native.Nat.{ℕ, _+_, _≤_}
-use native.Mathlib.Omega.{arith}
-use lib.ListN.{length}
-use lib.Seq.{length-take-le}
+use Prim.Native.Nat.{ℕ, _+_}
+use mir.Syntax.{w32}
+use mir.Facts.{toZ-ofZ}
+use lib.ListN.{take}
 use Rattle.grid.specs.Characters.{digitOf}
+use Rattle.grid.specs.Layers.{product}
+use Rattle.layers.specs.declared.LayersRead.{LayersRead}
 use Rattle.layers.specs.inner.Editions.{radicesOf}
-use Rattle.layers.specs.Heights.{heightAnswer}
+use Rattle.layers.specs.Heights.{heightRead, heightAnswer, layersAnswer}
+use Rattle.space.specs.inner.Parts.{heightPart, heightsAnswer}
+use Rattle.space.proofs.Reading.{height-reach, height-standing, lying, height-bad}
 use borrow.Author.Needs.{needs}
 use Rattle.space.proofs.height_of.Statement.{statement}
 use Rattle.space.proofs.height_of.Tie as tie
 
--- the height characters are no more than their part has
-room : (c : tie.After-h2) → 2 + c .before .before .before .before .args .level ≤ length (c .before .height-part .last .1 .1 .0)
-room c =
-    let s = c .before .before .before .before in
-    let n : length (c .before .height-part .last .1 .1 .0) ≡ 12 = search needs in
-    omega (arith, s .pre .level-high)
-
-slice-aggregate-height-part : tie.Need-slice-aggregate-height-part
-slice-aggregate-height-part c = search needs
-
-height-part-requires : tie.Need-height-part-requires
-height-part-requires c κs = let s = c .before .before in (s .pre, search needs)
-
-add-n : tie.Need-add-n
-add-n c = search needs
-
-array-share-prefix-h : tie.Need-array-share-prefix-h
-array-share-prefix-h c = search needs
-
-slice-aggregate-read : tie.Need-slice-aggregate-read
-slice-aggregate-read c = sym (length-take-le (2 + c .before .before .before .before .before .args .level) (c .before .before .height-part .last .1 .1 .0) (room (c .before)))
+-- what was read of the height part
+answered : (c : tie.After-read) {h : LayersRead} → c .read .result ≡ h
+    → let s = c .before .before in layersAnswer h ≡ heightAnswer (radicesOf (s .args .second)) (s .args .level) (map digitOf (take (2 + s .args .level) (heightPart (s .args .code .now))))
+answered c e =
+    let s = c .before .before in
+    ap layersAnswer (sym e) ∙ c .read .ensures ∙ ap (λ (w : List ℕ). heightAnswer (radicesOf (s .args .second)) (s .args .level) (map digitOf w)) (height-standing (s .args .level) (s .args .code .now))
 
 read-requires : tie.Need-read-requires
-read-requires c κs =
-    let s = c .before .before .before .before .before in
-    record {
-      some-level = s .pre .level-low;
-      ten-levels = s .pre .level-high;
-      exactly = length-take-le (2 + s .args .level) (c .before .before .height-part .last .1 .1 .0) (room (c .before));
-    }
+read-requires c κs = let d = c .before .pre in record { some-level = d .level-low; ten-levels = d .level-high; twelve = refl; reach = height-reach d }
+
+enum-known-above : tie.Need-enum-known-above
+enum-known-above c = search needs
+
+floor-requires : tie.Need-floor-requires
+floor-requires c κs =
+    let r = c .before .before .before in
+    lying (r .before .before .args .second) (r .before .before .args .level) _ (answered r (c .before .above .given .1))
+
+enum-known-q : tie.Need-enum-known-q
+enum-known-q c = search needs
+
+height-place-requires : tie.Need-height-place-requires
+height-place-requires c κs = search needs
 
 returns : tie.Need-returns
 returns c =
-    let s = c .before .before .before .before .before .before in
-    c .read .ensures ∙ ap (λ (l : List ℕ). heightAnswer (radicesOf (s .args .second)) (s .args .level) (map digitOf l)) (c .before .before .before .height-part .ensures)
+    let r = c .before .before .before .before in
+    let top = product (radicesOf (r .before .before .args .second)) in
+    rw (toZ-ofZ {w = w32} {z = c .floor .result} (record { sfits = c .floor .ok }), c .floor .ensures (c .before .before .above .given .0 .1 .1 .0))
+    (ap (heightsAnswer top) (answered r (c .before .before .above .given .1)))
+
+returns-2 : tie.Need-returns-2
+returns-2 c =
+    let r = c .before .before .before .before in
+    let s = r .before .before in
+    rw (c .height-place .ensures)
+    (height-bad (product (radicesOf (s .args .second))) (heightRead (radicesOf (s .args .second)) (s .args .level) _) (answered r (c .before .before .q .given .1)))
 
 pub height-of-spec : {M : Type 1} → statement M
 height-of-spec =
     tie.close
     (tie.spec
-    slice-aggregate-height-part
-    height-part-requires
-    add-n
-    array-share-prefix-h
-    slice-aggregate-read
     read-requires
-    returns)
+    enum-known-above
+    floor-requires
+    enum-known-q
+    height-place-requires
+    returns
+    returns-2)

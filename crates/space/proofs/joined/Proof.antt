@@ -1,8 +1,7 @@
 -- `space::joined` meets its contract. Assumes nothing.
-use mathlib.Core.Path.{refl, _∙_, subst}
-use Rattle.grid.specs.Layers.{product}
-use Rattle.layers.specs.inner.Editions.{radicesOf}
-use Rattle.space.specs.inner.Parts.{Lying}
+use mathlib.Core.Path.{refl, _∙_}
+use mir.Syntax.{w32}
+use mir.Facts.{toZ-ofZ}
 use borrow.Author.Needs.{needs}
 use Rattle.space.proofs.joined.Statement.{statement}
 use Rattle.space.proofs.joined.Tie as tie
@@ -11,7 +10,7 @@ enum-known-h : tie.Need-enum-known-h
 enum-known-h c = search needs
 
 over-layers-requires : tie.Need-over-layers-requires
-over-layers-requires c κs = subst (Lying (product (radicesOf (c .before .before .before .args .second)))) (c .before .h .given .1) (c .before .before .before .pre)
+over-layers-requires c κs = search needs
 
 enum-known-h-2 : tie.Need-enum-known-h-2
 enum-known-h-2 c = search needs
@@ -20,18 +19,14 @@ over-bad-requires : tie.Need-over-bad-requires
 over-bad-requires c κs = search needs
 
 returns : tie.Need-returns
-returns c = c .over-layers .ensures ∙ rw (c .before .before .h .given .1) refl
+returns c =
+    let h = c .before .before .h .given in
+    c .over-layers .ensures ∙ rw (h .1, toZ-ofZ {w = w32} {z = h .0 .0} (record { sfits = c .before .known-told .given .0 .1 })) refl
 
 returns-2 : tie.Need-returns-2
-returns-2 c = c .over-bad .ensures (product (radicesOf (c .before .before .before .before .args .second))) ∙ rw (c .before .before .h2 .given .1) refl
+returns-2 c = c .over-bad .ensures ∙ rw (c .before .before .h2 .given .1) refl
 
 pub joined-spec : {M : Type 1} → statement M
 joined-spec =
     tie.close
-    (tie.spec
-    enum-known-h
-    over-layers-requires
-    enum-known-h-2
-    over-bad-requires
-    returns
-    returns-2)
+    (tie.spec enum-known-h over-layers-requires enum-known-h-2 over-bad-requires returns returns-2)

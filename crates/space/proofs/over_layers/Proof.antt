@@ -1,6 +1,5 @@
 -- `space::over_layers` meets its contract. Assumes nothing.
 use mathlib.Core.Path.{refl}
-use mir.Syntax.{w32}
 use mir.Facts.{toZ-ofZ}
 use borrow.Author.Needs.{needs}
 use Rattle.space.proofs.over_layers.Statement.{statement}
@@ -8,9 +7,6 @@ use Rattle.space.proofs.over_layers.Tie as tie
 
 enum-known-a : tie.Need-enum-known-a
 enum-known-a c = search needs
-
-floor-requires : tie.Need-floor-requires
-floor-requires c κs = search needs
 
 enum-known-a-2 : tie.Need-enum-known-a-2
 enum-known-a-2 c = search needs
@@ -22,12 +18,7 @@ at-place-requires : tie.Need-at-place-requires
 at-place-requires c κs = search needs
 
 returns : tie.Need-returns
-returns c =
-    rw (
-      c .before .before .a .given .1,
-      toZ-ofZ {w = w32} {z = c .floor .result} (record { sfits = c .floor .ok }),
-      c .floor .ensures (c .before .before .before .before .args .thick),
-    ) refl
+returns c = rw (c .before .a .given .1, toZ-ofZ (c .before .before .before .fits .floor)) refl
 
 returns-2 : tie.Need-returns-2
 returns-2 c = rw (c .at-place .ensures, c .before .plane-place .ensures, c .before .before .before .a2 .given .1) refl
@@ -35,11 +26,4 @@ returns-2 c = rw (c .at-place .ensures, c .before .plane-place .ensures, c .befo
 pub over-layers-spec : {M : Type 1} → statement M
 over-layers-spec =
     tie.close
-    (tie.spec
-    enum-known-a
-    floor-requires
-    enum-known-a-2
-    plane-place-requires
-    at-place-requires
-    returns
-    returns-2)
+    (tie.spec enum-known-a enum-known-a-2 plane-place-requires at-place-requires returns returns-2)

@@ -4,7 +4,7 @@ use native.Mathlib.Omega.{arith}
 use lib.ListN.{length}
 use Rattle.grid.specs.Answers as answers
 use Rattle.space.specs.inner.Asking.{SpaceRoom}
-use Rattle.space.proofs.Reading.{Leveled, leveled, read-none, read-joined, lying}
+use Rattle.space.proofs.Reading.{Leveled, leveled, read-none, read-joined}
 use borrow.Author.Needs.{needs}
 use Rattle.space.proofs.read_in.Statement.{statement}
 use Rattle.space.proofs.read_in.Tie as tie
@@ -26,19 +26,19 @@ refuse-requires c κs = search needs
 returns : tie.Need-returns
 returns c = ap answers.refused (c .refuse .ensures) ∙ read-none _ (c .before .before .before .before .args .code .now) (c .before .before .level-of .ensures) (c .before .if1 .taken)
 
-plane-of-requires : tie.Need-plane-of-requires
-plane-of-requires c κs = room c
-
 height-of-requires : tie.Need-height-of-requires
-height-of-requires c κs = room (c .before)
+height-of-requires c κs = room c
+
+plane-of-requires : tie.Need-plane-of-requires
+plane-of-requires c κs = room (c .before)
 
 joined-requires : tie.Need-joined-requires
-joined-requires c κs = lying (c .before .before .before .before .before .args .second) (c .before .before .before .level-of .result) _ (c .height-of .result) (c .height-of .ensures)
+joined-requires c κs = search needs
 
 returns-2 : tie.Need-returns-2
 returns-2 c =
     let s = c .before .before .before .before .before .before in
-    read-joined (s .args .second) (s .args .code .now) (c .before .before .before .before .level-of .result) (known (c .before .before .before)) (c .joined .ensures) (c .before .before .plane-of .ensures) (c .before .height-of .ensures)
+    read-joined (s .args .second) (s .args .code .now) (c .before .before .before .before .level-of .result) (known (c .before .before .before)) (c .joined .ensures) (c .before .plane-of .ensures) (c .before .before .height-of .ensures)
 
 pub read-in-spec : {M : Type 1} → statement M
 read-in-spec =
@@ -47,7 +47,7 @@ read-in-spec =
     level-of-requires
     refuse-requires
     returns
-    plane-of-requires
     height-of-requires
+    plane-of-requires
     joined-requires
     returns-2)

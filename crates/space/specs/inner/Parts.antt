@@ -2,8 +2,9 @@
 -- Assumes nothing.
 use mathlib.Core.Bool.{true, false, cond}
 use mathlib.Core.List.{List, [], _∷_, map}
-use Prim.Native.Nat.{ℕ, zero, suc, _<_}
+use Prim.Native.Nat.{ℕ, zero, suc}
 use lib.Dec.{ltb}
+use lib.IntN.{ℤ}
 use lib.ListN.{getD}
 use Rattle.grid.specs.declared.Refusal.{Refusal}
 use Rattle.grid.specs.declared.Split.{Split}
@@ -11,13 +12,13 @@ use Rattle.grid.specs.declared.SpaceCell.{SpaceCell}
 use Rattle.grid.specs.declared.Cell.{Cell}
 use Rattle.grid.specs.Splits.{splits}
 use Rattle.grid.specs.Codes.{placeIn}
-use Rattle.grid.specs.Answers.{Answer, accepted, refused}
+use Rattle.grid.specs.Answers.{Answer, accepted, refused, wrongCharacter}
 use Rattle.grid.specs.inner.Roads.{atPlace}
 use Rattle.grid.specs.Layers.{Stack, floorOf, thicknessOf}
 use Rattle.grid.specs.Space.{spaceLengths}
 use Rattle.plane.specs.inner.Lengths.{orZero}
-use Rattle.layers.specs.declared.LayersRead.{LayersRead}
-use Rattle.layers.specs.declared.LayersRead.the-variants as layers
+use Rattle.space.specs.declared.Heights.{Heights}
+use Rattle.space.specs.declared.Heights.the-variants as heights
 use Rattle.space.specs.inner.Weave.{Strand, placeOne, placeTwo}
 
 -- the level of the space codes that are n bytes long; 0 where there is none
@@ -71,15 +72,19 @@ ofPlane r = atPlace (planePlace (r .place)) r
 abbrev pub ofHeight : Refusal → Refusal
 ofHeight q = atPlace (heightPlace (q .place)) q
 
--- the answers of the plane reader and of the height reader together, where `top` layers lie above ground: the cell with its layers, or the first
--- bad character of either
-abbrev pub joinedAnswer : ℕ → Answer Cell → Answer Stack → Answer SpaceCell
-joinedAnswer top (accepted c) (accepted m) = accepted (record { cell = c; floor = floorOf top m; thickness = thicknessOf top m })
-joinedAnswer top (accepted c) (refused q) = refused (ofHeight q)
-joinedAnswer top (refused r) (accepted m) = refused (ofPlane r)
-joinedAnswer top (refused r) (refused q) = refused (earlier (ofPlane r) (ofHeight q))
+-- the height reader's answer, where `top` layers lie above ground: the lowest layer and how many there are, or the bad character's place in the space code
+abbrev pub heightsAnswer : ℕ → Answer Stack → Answer (ℤ × ℕ)
+heightsAnswer top (accepted m) = accepted (floorOf top m, thicknessOf top m)
+heightsAnswer top (refused q) = refused (ofHeight q)
 
--- layers that were read lie in their range, of which there are `top` on either side of the ground
-abbrev pub Lying : ℕ → LayersRead → Type 0
-Lying top (layers.Found above low thick) = low < top
-Lying top (layers.Refused q) = Unit {0}
+-- the same as the code has it
+abbrev pub heightsRead : Heights → Answer (ℤ × ℕ)
+heightsRead (heights.Found floor thick) = accepted (floor, thick)
+heightsRead (heights.Bad p) = refused (wrongCharacter p)
+
+-- the answers of the plane reader and of the height reader together: the cell with its layers, or the first bad character of either
+abbrev pub joinedAnswer : Answer Cell → Answer (ℤ × ℕ) → Answer SpaceCell
+joinedAnswer (accepted c) (accepted h) = accepted (record { cell = c; floor = h .0; thickness = h .1 })
+joinedAnswer (accepted c) (refused q) = refused q
+joinedAnswer (refused r) (accepted h) = refused (ofPlane r)
+joinedAnswer (refused r) (refused q) = refused (earlier (ofPlane r) q)
