@@ -1,7 +1,7 @@
 /* One row of the held counts: makes the row's inputs, then calls the library on some of them, so that counts.sh can count from outside.
  *
- *     count --names            the rows, a line each
- *     count ROW CALLS          makes ROW's inputs, makes CALLS calls (at most 256), and prints the stack that they used
+ *     count --names            the rows, a line each, with how many inputs each has
+ *     count ROW CALLS          makes ROW's inputs, makes CALLS calls (at most as many), and prints the stack that they used
  *
  * The calls run on a stack of their own that was painted before: what is no longer painted was used. The inputs are the same on every machine.
  */
@@ -13,14 +13,17 @@
 #include "../tests/dice.h"
 #include "hailgully.h"
 
-enum { MANY = 256, STACK = 1 << 16, PAINT = 0xA5 };
+enum { MANY = 256, SOME = 16, STACK = 1 << 16, PAINT = 0xA5 };
 
 typedef struct {
     int64_t edition, level, longitude, latitude, layer;
     uint8_t code[40], target[40];
     size_t length, target_length;
     double x, y;
+    uint32_t start, end;
 } input;
+
+static input inputs[MANY];
 
 static void need(int good, const char *what) {
     if (good) return;
@@ -82,6 +85,57 @@ static void polar_space_10(input *i) { place(i, 10, 1), space_code(i); }
 static void space_2_10(input *i) { place(i, 10, 0), space_code_2(i); }
 static void space_2_5(input *i) { place(i, 5, 0), space_code_2(i); }
 
+/* ---- the book: 256 records of flights 0 to 255 near a tower, all live but the last; what is asked for conflicts with none of them */
+
+enum { LAST = HG_BOOK_MOST - 1, TOWER_EAST = 857549557, TOWER_NORTH = 294861578, NEAR = 61440, DEGREE = HG_DEGREE, DAY = 1440 };
+/* what a record does not share with what is asked: any minute; any longitude, though all else; something */
+typedef enum { MINUTES, LONGITUDES, SOMETHING } apart;
+
+static hg_reservation book[HG_BOOK_MOST];
+
+static void some_minutes(uint32_t *start, uint32_t *end, int64_t least, int64_t greatest) {
+    *start = (uint32_t)between(least, greatest - 15);
+    *end = (uint32_t)between(*start + 15, *start + 180 < greatest ? *start + 180 : greatest);
+}
+
+static hg_reservation record(uint32_t flight, apart kind) {
+    uint32_t level = (uint32_t)between(6, 8), size = UINT32_C(4096) >> 3 * (level - 6);
+    hg_reservation r = {1, flight, level, TOWER_EAST, TOWER_NORTH, size, size, 0, HG_LAYER_GREATEST + 1, 0, DAY};
+    r.west += (int32_t)(kind == LONGITUDES ? between(-DEGREE, DEGREE) : between(-NEAR, NEAR));
+    r.south -= (int32_t)(kind == LONGITUDES ? size / 2 : between(-NEAR, NEAR));
+    if (kind != LONGITUDES) some_minutes(&r.start, &r.end, kind == MINUTES ? DAY / 2 : 0, DAY);
+    if (kind == SOMETHING && dice() % 2) r.floor = (int32_t)between(0, 8191), r.thickness = size;
+    return r;
+}
+
+static hg_booked add_plane(const input *i) { return hg_book_add_plane(i->code, i->length, HG_BOOK_MOST, i->start, i->end, book, HG_BOOK_MOST); }
+static hg_booked add_space(const input *i) { return hg_book_add_space(i->code, i->length, HG_BOOK_MOST, i->start, i->end, book, HG_BOOK_MOST); }
+
+/* the book, with a row's first input, and what is asked of it */
+static void ask(input *i, apart kind, void (*code)(input *), hg_booked (*add)(const input *)) {
+    if (i == inputs)
+        for (uint32_t n = 0; n < HG_BOOK_MOST; n++) book[n] = record(n, kind);
+    uint32_t number = 1;
+    for (int tries = 0; number != 0 && tries < 1000; tries++) {
+        book[LAST].live = 0;
+        place(i, 10, 0);
+        i->longitude = TOWER_EAST + (kind == LONGITUDES ? between(-DEGREE, DEGREE) : between(-NEAR, NEAR));
+        i->latitude = TOWER_NORTH + (kind == LONGITUDES ? 0 : between(-NEAR, NEAR));
+        i->layer = between(0, 8191);
+        some_minutes(&i->start, &i->end, 0, kind == MINUTES ? DAY / 2 : DAY);
+        code(i);
+        number = add(i).refusal.number;
+    }
+    need(number == 0, "nothing that is asked can be added");
+    book[LAST].live = 0;
+}
+
+static void ask_minutes(input *i) { ask(i, MINUTES, plane_code, add_plane); }
+static void ask_longitudes(input *i) { ask(i, LONGITUDES, plane_code, add_plane); }
+static void ask_mixed(input *i) { ask(i, SOMETHING, plane_code, add_plane); }
+static void ask_mixed_space(input *i) { ask(i, SOMETHING, space_code, add_space); }
+static void ask_release(input *i) { ask_mixed(i), book[LAST] = record(LAST, SOMETHING); }
+
 /* ---- calls; each notes where the stack stands before it */
 
 static char *before;
@@ -111,37 +165,61 @@ static void reference_read(input *i) {
     seen += hg_reference_read(i->code, i->length, line, sizeof line, 0).refusal.number;
 }
 
+static void book_add_plane(input *i) {
+    NOTE();
+    seen += hg_book_add_plane(i->code, i->length, HG_BOOK_MOST, i->start, i->end, book, HG_BOOK_MOST).refusal.number;
+    book[LAST].live = 0;
+}
+
+static void book_add_space(input *i) {
+    NOTE();
+    seen += hg_book_add_space(i->code, i->length, HG_BOOK_MOST, i->start, i->end, book, HG_BOOK_MOST).refusal.number;
+    book[LAST].live = 0;
+}
+
+static void book_release(input *i) {
+    (void)i;
+    NOTE();
+    seen += hg_book_release(LAST, book, HG_BOOK_MOST).refusal.number;
+    book[LAST].live = 1;
+}
+
 static const struct {
     const char *name;
     void (*make)(input *);
     void (*call)(input *);
+    int inputs;
 } rows[] = {
-    {"plane write, level 10", plane_10, plane_write},
-    {"plane write, level 5", plane_5, plane_write},
-    {"plane write, level 1", plane_1, plane_write},
-    {"plane read, level 10", plane_10, plane_read},
-    {"plane read, level 5", plane_5, plane_read},
-    {"plane read, level 1", plane_1, plane_read},
-    {"polar plane write, level 10", polar_10, plane_write},
-    {"polar plane read, level 10", polar_10, plane_read},
-    {"plane box, level 10", plane_10, plane_box},
-    {"space write, level 10", space_10, space_write},
-    {"space write, level 5", space_5, space_write},
-    {"space read, level 10", space_10, space_read},
-    {"space read, level 5", space_5, space_read},
-    {"polar space write, level 10", polar_space_10, space_write},
-    {"polar space read, level 10", polar_space_10, space_read},
-    {"space write, edition 2, level 10", space_2_10, space_write},
-    {"space write, edition 2, level 5", space_2_5, space_write},
-    {"space read, edition 2, level 10", space_2_10, space_read},
-    {"space read, edition 2, level 5", space_2_5, space_read},
-    {"reference write, levels 5 to 10", reference_code, reference_write},
-    {"reference read, levels 5 to 10", reference_code, reference_read},
-    {"arcseconds", plane_10, arcseconds},
+    {"plane write, level 10", plane_10, plane_write, MANY},
+    {"plane write, level 5", plane_5, plane_write, MANY},
+    {"plane write, level 1", plane_1, plane_write, MANY},
+    {"plane read, level 10", plane_10, plane_read, MANY},
+    {"plane read, level 5", plane_5, plane_read, MANY},
+    {"plane read, level 1", plane_1, plane_read, MANY},
+    {"polar plane write, level 10", polar_10, plane_write, MANY},
+    {"polar plane read, level 10", polar_10, plane_read, MANY},
+    {"plane box, level 10", plane_10, plane_box, MANY},
+    {"space write, level 10", space_10, space_write, MANY},
+    {"space write, level 5", space_5, space_write, MANY},
+    {"space read, level 10", space_10, space_read, MANY},
+    {"space read, level 5", space_5, space_read, MANY},
+    {"polar space write, level 10", polar_space_10, space_write, MANY},
+    {"polar space read, level 10", polar_space_10, space_read, MANY},
+    {"space write, edition 2, level 10", space_2_10, space_write, MANY},
+    {"space write, edition 2, level 5", space_2_5, space_write, MANY},
+    {"space read, edition 2, level 10", space_2_10, space_read, MANY},
+    {"space read, edition 2, level 5", space_2_5, space_read, MANY},
+    {"reference write, levels 5 to 10", reference_code, reference_write, MANY},
+    {"reference read, levels 5 to 10", reference_code, reference_read, MANY},
+    {"arcseconds", plane_10, arcseconds, MANY},
+    {"book add, minutes apart", ask_minutes, book_add_plane, SOME},
+    {"book add, longitudes apart", ask_longitudes, book_add_plane, SOME},
+    {"book add, mixed", ask_mixed, book_add_plane, SOME},
+    {"book add, space code, mixed", ask_mixed_space, book_add_space, SOME},
+    {"book release, the last", ask_release, book_release, SOME},
 };
 enum { ROWS = sizeof rows / sizeof rows[0] };
 
-static input inputs[MANY];
 static char stack[STACK];
 static ucontext_t here, there;
 static int row, calls;
@@ -152,14 +230,14 @@ static void make_calls(void) {
 
 int main(int words, char **word) {
     if (words == 2 && strcmp(word[1], "--names") == 0) {
-        for (row = 0; row < ROWS; row++) puts(rows[row].name);
+        for (row = 0; row < ROWS; row++) printf("%s\t%d\n", rows[row].name, rows[row].inputs);
         return 0;
     }
     need(words == 3, "a row and a number of calls");
     while (row < ROWS && strcmp(rows[row].name, word[1]) != 0) row++;
     calls = atoi(word[2]);
-    need(row < ROWS && 0 <= calls && calls <= MANY, "no such row, or too many calls");
-    for (int i = 0; i < MANY; i++) rows[row].make(&inputs[i]);
+    need(row < ROWS && 0 <= calls && calls <= rows[row].inputs, "no such row, or too many calls");
+    for (int i = 0; i < rows[row].inputs; i++) rows[row].make(&inputs[i]);
     memset(stack, PAINT, STACK);
     need(getcontext(&there) == 0, "getcontext");
     there.uc_stack.ss_sp = stack;

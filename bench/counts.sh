@@ -11,7 +11,6 @@ here=$(cd "$(dirname "$0")" && pwd)
 library=${HAILGULLY_LIB_DIR:-$here/../target/hailgully}
 scratch=$(mktemp -d)
 trap 'rm -rf "$scratch"' EXIT
-calls=256
 case ${1:-} in '' | --held | --write) ;; *) echo "counts.sh: --held, --write or nothing" >&2; exit 2 ;; esac
 
 if ! command -v qemu-x86_64 >/dev/null; then
@@ -33,10 +32,10 @@ run() {
 }
 
 "$scratch/count" --names >"$scratch/rows" 2>/dev/null || qemu-x86_64 "$scratch/count" --names >"$scratch/rows"
-while IFS= read -r row; do
+while IFS=$'\t' read -r row calls; do
   none=$(run "$row" 0)
-  all=$(run "$row" $calls)
-  printf '%s\t%s\t%s\n' "$row" "$(awk -v n=$((all - none)) -v c=$calls 'BEGIN { printf "%.1f", n / c }')" "$(cat "$scratch/stack")"
+  all=$(run "$row" "$calls")
+  printf '%s\t%s\t%s\n' "$row" "$(awk -v n=$((all - none)) -v c="$calls" 'BEGIN { printf "%.1f", n / c }')" "$(cat "$scratch/stack")"
 done <"$scratch/rows" >"$scratch/counts"
 head='# What each call costs inside the library: instructions, and bytes of stack with the return address. bench/counts.sh --held holds them.'
 

@@ -1,5 +1,5 @@
-/* A worked example: the cell that a flight over a tower holds, and its neighbour, from a receiver's arc-seconds; a survey at the pole and at 180
- * degrees; and an altimeter's code.
+/* A worked example: the cell that a flight over a tower holds, and its neighbour, from a receiver's arc-seconds; the book of what flights hold; a
+ * survey at the pole and at 180 degrees; and an altimeter's code.
  *
  *     cc -I ../target/hailgully plan.c ../target/hailgully/libhailgully.a -o plan && ./plan
  */
@@ -38,6 +38,23 @@ int main(void) {
     hg_written r = hg_reference_write(base, b.length, east, e.length, reference, sizeof reference, 0);
     if (refused("reference", r.refusal)) return 1;
     printf("neighbour %.*s\n", (int)r.length, (const char *)reference);
+
+    /* The scheduler's book, in which nothing is live at first. Flight 7 holds the space cell, the minutes 600 to 659. Flight 8 asks for all layers above
+     * ground there: the board shows who holds them, and flight 8 gets them after that. Then flight 7 has landed. */
+    static hg_reservation book[HG_BOOK_MOST];
+    hg_booked seven = hg_book_add_space(line + 6, w.length, 7, 600, 660, book, HG_BOOK_MOST);
+    if (refused("flight 7", seven.refusal)) return 1;
+    hg_booked eight = hg_book_add_plane(base, b.length, 8, 630, 690, book, HG_BOOK_MOST);
+    if (eight.refusal.number == HG_CONFLICT) {
+        const hg_reservation *held = &book[eight.refusal.place];
+        printf("flight 8: refused, flight %u holds it until %u\n", (unsigned)held->flight, (unsigned)held->end);
+        eight = hg_book_add_plane(base, b.length, 8, held->end, held->end + 60, book, HG_BOOK_MOST);
+    }
+    if (refused("flight 8", eight.refusal)) return 1;
+    printf("flight 8: record %llu, from %u to %u\n", (unsigned long long)eight.at, (unsigned)book[eight.at].start, (unsigned)book[eight.at].end);
+    hg_booked landed = hg_book_release(7, book, HG_BOOK_MOST);
+    if (refused("release", landed.refusal)) return 1;
+    printf("flight 7: record %llu released\n", (unsigned long long)landed.at);
 
     /* A polar survey's receiver prints 180 degrees east, 648,000 arc-seconds, and at the pole 90 degrees north. 180 is -180: a cell begins there. */
     const double north[] = {302400.5, 324000.0};

@@ -1,4 +1,5 @@
-/* Hailgully: the codes of the BeiDou grid (GB/T 39409-2020), from position to code and from code to cell. For x86-64 Linux.
+/* Hailgully: the codes of the BeiDou grid (GB/T 39409-2020), from position to code and from code to cell, and the book of the cells that flights
+ * hold. For x86-64 Linux.
  *
  * A unit is 1/2048 arc-second; one degree is 7,372,800 units. A position names a unit square by its west and south corner. The ranges of
  * longitude, latitude, layer and level are the constants below. docs/GRID.md has the rules, with pictures.
@@ -11,16 +12,23 @@
  * every code of edition 1 can be read in edition 2 too, mostly as other layers.
  *
  * Every call takes any numbers and any bytes, and answers with a result or with exactly one refusal. Nothing is clipped.
- * A refusal's number says why (the enum below). Its place is the first bad character, counted from 0, for HG_CHARACTER, else 0. Its ordinal is 2
- * where HG_LENGTH or HG_CHARACTER speaks of a second code, else 1. On a refusal every other field is 0, and no byte that was lent is changed.
- * On success the refusal's three numbers are 0.
+ * A refusal's number says why (the enum below). Its place is the first bad character for HG_CHARACTER and the first conflicting record for
+ * HG_CONFLICT, each counted from 0, else 0. Its ordinal is 2 where HG_LENGTH or HG_CHARACTER speaks of a second code, else 1. On a refusal every
+ * other field is 0, and no byte that was lent is changed. On success the refusal's three numbers are 0.
  *
  * A line is lent as its first byte and its length; a writer writes from the place `at` on, and the bytes before it and after the code stay. No zero
  * byte is written after a code: its length is what the call answers.
  *
- * What is asked of the caller: a pointer is good for as many bytes as the length beside it says, and is not null, also where that length is 0; a line
- * overlaps no code that the same call reads. No call allocates, keeps a pointer, or reads or writes outside what it was lent. Calls may be made from any
- * thread at once.
+ * A book of reservations is lent as its first record and how many records it has, at most HG_BOOK_MOST. Any bytes are records; zero bytes are
+ * records that are not live. Two records conflict when they share a unit cube and a minute. A record's cubes are those that its numbers name as
+ * whole numbers: longitudes west to west + width - 1, where a full turn (360 degrees) apart is the same, latitudes south to south + height - 1, and
+ * layers floor to floor + thickness - 1. No sum wraps at 32 bits, and a size of 0 names none. Its minutes are start to end - 1: none where start is
+ * not before end. From a book with nothing live, whatever calls are made, each lent the same whole book as the last one left it, no two live records
+ * conflict.
+ *
+ * What is asked of the caller: a pointer is good for as many bytes, or records, as the length beside it says, and is not null, also where that
+ * length is 0; a book stands at a multiple of 4 bytes, as its type does; a line or a book overlaps no code that the same call reads, and is lent to
+ * one call at a time. No call allocates, keeps a pointer, or reads or writes outside what it was lent. Calls may be made from any thread at once.
  */
 #ifndef HAILGULLY_H
 #define HAILGULLY_H
@@ -33,7 +41,7 @@ extern "C" {
 #endif
 
 #define HG_VERSION_MAJOR 0
-#define HG_VERSION_MINOR 4
+#define HG_VERSION_MINOR 5
 
 /* A refusal's number. */
 enum {
@@ -50,7 +58,13 @@ enum {
     HG_OFFSET = 10,         /* either offset is beyond 7 */
     HG_NOT_A_NUMBER = 11,   /* either arc-second reading is not a number */
     HG_POLAR_TARGET = 12,   /* a reference read leads to 88 degrees or nearer a pole */
-    HG_EDITION = 13         /* edition neither 1 nor 2 */
+    HG_EDITION = 13,        /* edition neither 1 nor 2 */
+    HG_MINUTES = 14,        /* start not before end */
+    HG_ALREADY_LIVE = 15,   /* a live record has the flight number already */
+    HG_CONFLICT = 16,       /* a live record shares a unit cube and a minute with what is asked */
+    HG_ALL_LIVE = 17,       /* every record is live, as in a book of no records */
+    HG_NOT_LIVE = 18,       /* no live record has the flight number */
+    HG_BOOK_TOO_LONG = 19   /* the book has more than 256 records */
 };
 
 /* Ranges, in units and layers; each end belongs to its range. Layers are those of edition 1, and with a 2 behind them those of edition 2. */
@@ -71,6 +85,9 @@ enum {
 #define HG_SPACE_MOST 32
 #define HG_REFERENCE_MOST 23
 
+/* The most records that a book has. */
+#define HG_BOOK_MOST 256
+
 typedef struct { uint32_t number, ordinal; uint64_t place; } hg_refusal;
 typedef struct { hg_refusal refusal; uint64_t length; } hg_written;
 /* These two end with four bytes that fill them up to a multiple of 8; nothing is said of what stands there. */
@@ -78,6 +95,11 @@ typedef struct { hg_refusal refusal; uint32_t level; int32_t west, south; uint32
 typedef struct { hg_refusal refusal; uint32_t level; int32_t west, south; uint32_t width, height; int32_t floor; uint32_t thickness; } hg_space_cell;
 typedef struct { hg_refusal refusal; int32_t longitude, latitude; } hg_units;
 typedef struct { hg_refusal refusal; double west, south, width, height; } hg_box;
+/* A record of a book: its live mark (0 is not live, any other number is), the flight's number, its space cell, and its minutes, the end not
+ * included. The level is kept, and no rule looks at it. */
+typedef struct { uint32_t live, flight, level; int32_t west, south; uint32_t width, height; int32_t floor; uint32_t thickness, start, end; } hg_reservation;
+/* at: the place of the record that was used or released, counted from 0 */
+typedef struct { hg_refusal refusal; uint64_t at; } hg_booked;
 
 /* The layout that the library has: a compiler that lays the structs out otherwise is told here. */
 #if defined(__cplusplus) && __cplusplus >= 201103L
@@ -97,6 +119,11 @@ HG_LAID_OUT(offsetof(hg_space_cell, floor) == 36 && offsetof(hg_space_cell, thic
 HG_LAID_OUT(sizeof(hg_units) == 24 && offsetof(hg_units, longitude) == 16 && offsetof(hg_units, latitude) == 20);
 HG_LAID_OUT(sizeof(hg_box) == 48 && offsetof(hg_box, west) == 16 && offsetof(hg_box, south) == 24 && offsetof(hg_box, width) == 32);
 HG_LAID_OUT(offsetof(hg_box, height) == 40);
+HG_LAID_OUT(sizeof(hg_reservation) == 44 && offsetof(hg_reservation, live) == 0 && offsetof(hg_reservation, flight) == 4);
+HG_LAID_OUT(offsetof(hg_reservation, level) == 8 && offsetof(hg_reservation, west) == 12 && offsetof(hg_reservation, south) == 16);
+HG_LAID_OUT(offsetof(hg_reservation, width) == 20 && offsetof(hg_reservation, height) == 24 && offsetof(hg_reservation, floor) == 28);
+HG_LAID_OUT(offsetof(hg_reservation, thickness) == 32 && offsetof(hg_reservation, start) == 36 && offsetof(hg_reservation, end) == 40);
+HG_LAID_OUT(sizeof(hg_booked) == 24 && offsetof(hg_booked, at) == 16);
 #undef HG_LAID_OUT
 #endif
 
@@ -132,6 +159,22 @@ hg_units hg_arcseconds(double longitude, double latitude);
 /* The box of a plane code in arc-seconds, exactly. Refusals, in order: 6, 7.
  * Example: N31A is west 0, south 0, width 21600, height 14400. */
 hg_box hg_plane_box(const uint8_t *code, size_t length);
+
+/* Adds a reservation to a book: a flight holds a plane code's cell, with layers 0 to 1887436799, for the minutes from start to end, the end not
+ * included. The first record that is not live is used: it becomes this reservation, with live mark 1, and no other byte changes. Refusals, in order:
+ * 19, 6, 7, 14, 15, 16, 17.
+ * Example: in a book of two zero records, flight 7 gets N31A from 600 to 660, at 0; then flight 8 and N31A00 from 659 to 700 are refused, 16 at place
+ * 0, and from 660 to 700 they get it, at 1. */
+hg_booked hg_book_add_plane(const uint8_t *code, size_t code_length, uint32_t flight, uint32_t start, uint32_t end, hg_reservation *book, size_t length);
+
+/* The same with a space code of edition 1, whose cell has layers of its own. Refusals, in order: 19, 6, 7, 14, 15, 16, 17.
+ * Example: where flight 7 holds N31A from 600 to 660, flight 9 gets N131A63 for these minutes, since its layers, -29491200 to -1, are below ground;
+ * N031A00 is refused, 16. */
+hg_booked hg_book_add_space(const uint8_t *code, size_t code_length, uint32_t flight, uint32_t start, uint32_t end, hg_reservation *book, size_t length);
+
+/* Releases a flight: the live mark of the first live record with its number becomes 0, and no other byte changes. Refusals, in order: 19, 18.
+ * Example: where record 0 is flight 7's, releasing 7 answers 0; releasing it again is refused, 18. */
+hg_booked hg_book_release(uint32_t flight, hg_reservation *book, size_t length);
 
 #ifdef __cplusplus
 }

@@ -1,11 +1,12 @@
-/* Every call on lines and codes that are lent at exactly their size, each between two pages that nobody may touch: against the page behind it or
- * against the page before it, in turn. A code that is lent for reading lies in pages that nobody may write. A call that reads or writes outside what
- * it was lent, or writes into a code, ends the program. Codes are also lent 256 and 65536 bytes longer, and are all to be refused.
+/* Every call on lines, codes and books that are lent at exactly their size, each between two pages that nobody may touch: against the page behind it
+ * or against the page before it, in turn. A code that is lent for reading lies in pages that nobody may write, and so does a book that is too long.
+ * A call that reads or writes outside what it was lent, or writes into a code, ends the program. Codes are also lent 256 and 65536 bytes longer, and
+ * are all to be refused.
  *
  *     cc -I ../target/hailgully bounds.c ../target/hailgully/libhailgully.a -o bounds && ./bounds
  *
- * Prints how many calls were made, how many of them were refused, and how many accepted a long code. With the word 'outside' or 'code' it makes that fault itself, and must not come
- * to its end.
+ * Prints how many calls were made, how many of them were refused, added or released something, or accepted a long code. With the word 'outside',
+ * 'code' or 'book' it makes that fault itself, and must not come to its end.
  */
 #define _DEFAULT_SOURCE
 #include <stdio.h>
@@ -17,14 +18,14 @@
 #include "dice.h"
 #include "hailgully.h"
 
-static unsigned long calls, refused, accepted;
+static unsigned long calls, refused, accepted, booked;
 static void count(hg_refusal r) {
     calls++;
     refused += r.number != 0;
 }
 
-/* Pages for what is lent: two codes for reading, and a line; each has room for the longest that is lent. */
-enum { CODE, TARGET, LINE, ARENAS };
+/* Pages for what is lent: two codes and a book for reading, a line, and a book; each has room for the longest that is lent. */
+enum { CODE, TARGET, LONG_BOOK, LINE, BOOK, ARENAS };
 enum { ROOM = 1 << 17 };
 static uint8_t *pages[ARENAS];
 
@@ -44,14 +45,56 @@ static void set_up(void) {
     }
 }
 
-/* n bytes at an edge of their pages, filled with what is given or with dots; a code may then only be read. */
+/* n bytes at an edge of their pages, filled with what is given or with dots; what is lent for reading may then only be read. */
 static uint8_t *lend(int arena, const uint8_t *bytes, size_t n) {
     uint8_t *b = dice() % 2 ? pages[arena] + ROOM - n : pages[arena];
     need(mprotect(pages[arena], ROOM, PROT_READ | PROT_WRITE) == 0, "mprotect");
     memset(b, '.', n);
     if (bytes) memcpy(b, bytes, n);
-    if (arena != LINE) need(mprotect(pages[arena], ROOM, PROT_READ) == 0, "mprotect");
+    if (arena < LINE) need(mprotect(pages[arena], ROOM, PROT_READ) == 0, "mprotect");
     return b;
+}
+
+/* A book of so many records, some of them live; most name nothing, so that something is added often. */
+static hg_reservation *lend_book(int arena, size_t n) {
+    static hg_reservation records[300];
+    for (size_t i = 0; i < n; i++) {
+        hg_reservation *r = &records[i];
+        for (size_t at = 0; at < sizeof *r; at += 4) {
+            uint32_t any = (uint32_t)dice();
+            memcpy((uint8_t *)r + at, &any, 4);
+        }
+        r->live %= 3;
+        r->flight %= 300;
+        if (dice() % 8) r->height = 0;
+    }
+    return (hg_reservation *)(void *)lend(arena, (const uint8_t *)records, n * sizeof records[0]);
+}
+
+/* How long a book is: mostly short, or about as long as it may be. */
+static size_t book_length(void) { return (size_t)(dice() % 8 ? between(0, 4) : between(255, 256)); }
+
+/* Both adding calls with a code; one book in sixteen is too long. */
+static void adders(const uint8_t *c, size_t n) {
+    uint32_t flight = (uint32_t)between(0, 400), start = (uint32_t)between(0, 5), end = (uint32_t)between(0, 50);
+    int too_long = dice() % 16 == 0;
+    size_t length = too_long ? (size_t)between(257, 300) : book_length();
+    hg_reservation *book = lend_book(too_long ? LONG_BOOK : BOOK, length);
+    hg_booked plane = hg_book_add_plane(c, n, flight, start, end, book, length);
+    hg_booked space = hg_book_add_space(c, n, flight, start, end, book, length);
+    count(plane.refusal);
+    count(space.refusal);
+    booked += (plane.refusal.number == 0) + (space.refusal.number == 0);
+}
+
+static void releaser(void) {
+    int too_long = dice() % 16 == 0;
+    size_t length = too_long ? (size_t)between(257, 300) : book_length();
+    hg_reservation *book = lend_book(too_long ? LONG_BOOK : BOOK, length);
+    uint32_t flight = dice() % 2 && length ? book[dice() % length].flight : (uint32_t)between(0, 300);
+    hg_booked b = hg_book_release(flight, book, length);
+    count(b.refusal);
+    booked += b.refusal.number == 0;
 }
 
 static void readers(const uint8_t *code, size_t n) {
@@ -59,6 +102,7 @@ static void readers(const uint8_t *code, size_t n) {
     count(hg_plane_read(c, n).refusal);
     for (int64_t edition = 1; edition <= 3; edition++) count(hg_space_read(edition, c, n).refusal);
     count(hg_plane_box(c, n).refusal);
+    adders(c, n);
     size_t room = (size_t)between(0, 24);
     uint8_t *line = lend(LINE, NULL, room);
     count(hg_reference_read(c, n, line, room, (size_t)between(0, 26)).refusal);
@@ -116,6 +160,9 @@ int main(int words, char **word) {
     set_up();
     if (words > 1 && strcmp(word[1], "outside") == 0) hg_plane_read(lend(CODE, NULL, ROOM) + ROOM - 3, 4);
     if (words > 1 && strcmp(word[1], "code") == 0) hg_plane_write(1, 0, 0, lend(CODE, NULL, 4), 4, 0);
+    static const hg_reservation live = {1, 0, 0, 0, 0, 0, 0, 0, 0, 0, 0};
+    if (words > 1 && strcmp(word[1], "book") == 0)
+        hg_book_release(0, (hg_reservation *)(void *)lend(LONG_BOOK, (const uint8_t *)&live, sizeof live), 1);
     for (int i = 0; i < 2000; i++) {
         int polar = dice() % 3 == 0;
         int64_t latitude = polar ? between(648806400, 663551999) : about(HG_LATITUDE_LEAST, HG_LATITUDE_GREATEST);
@@ -125,7 +172,8 @@ int main(int words, char **word) {
         writers(edition, between(0, 11), longitude, latitude, between(HG_LAYER_LEAST_2 - 1, HG_LAYER_GREATEST_2 + 1));
         count(hg_arcseconds((double)longitude / 2048.0, (double)latitude / 2048.0).refusal);
         count(hg_arcseconds((double)between(-1400000000, 1400000000) / 2048.0, (double)between(-700000000, 700000000) / 2048.0).refusal);
+        releaser();
     }
-    printf("%lu calls, %lu refused, %lu accepted a long code\n", calls, refused, accepted);
-    return calls > 10000 && refused > 1000 && accepted == 0 ? 0 : 1;
+    printf("%lu calls, %lu refused, %lu added or released, %lu accepted a long code\n", calls, refused, booked, accepted);
+    return calls > 10000 && refused > 1000 && booked > 1000 && accepted == 0 ? 0 : 1;
 }

@@ -1,4 +1,4 @@
-/* Document 01's cases P1 to P13, its run cases, the examples of source 000, clause 8.1, and document 02's Wishes 1 and 2, asked of the library as
+/* Document 01's cases P1 to P13, its run cases, the examples of source 000, clause 8.1, and document 02's Wishes 1 to 3, asked of the library as
  * it is linked.
  * Prints each case that comes out otherwise, and last how many there were; fails if there was one.
  */
@@ -186,6 +186,168 @@ static void ends(void) {
     reading(NAN, 324000.0, "refused 11 0 1");
 }
 
+/* The answer of a call of the book: "at" and the place of the record, or its refusal. */
+static void booked(hg_booked b, const char *what, const char *wanted) {
+    char got[80];
+    if (b.refusal.number == 0)
+        snprintf(got, sizeof got, "at %" PRIu64, b.at);
+    else
+        snprintf(got, sizeof got, "refused %" PRIu32 " %" PRIu64 " %" PRIu32, b.refusal.number, b.refusal.place, b.refusal.ordinal);
+    held(strcmp(got, wanted) == 0, what, got);
+    held(b.refusal.number == 0 || b.at == 0, what, "a refusal with a record's place");
+}
+
+/* A call of the book on the first records of it: a refusal changes nothing, and an answer only the record that it names. */
+enum { MOST = 256, RECORDS = MOST + 1 };
+static hg_reservation book[RECORDS];
+static void changed(const hg_reservation *before, hg_booked b, const char *what) {
+    int well = 1;
+    for (size_t i = 0; i < RECORDS; i++) {
+        int same = memcmp(&before[i], &book[i], sizeof book[i]) == 0;
+        well = well && same == (b.refusal.number != 0 || i != b.at);
+    }
+    held(well, what, "another change of the book");
+}
+
+static void add_plane(const char *code, uint32_t flight, uint32_t start, uint32_t end, size_t length, const char *wanted) {
+    static hg_reservation before[RECORDS];
+    memcpy(before, book, sizeof book);
+    hg_booked b = hg_book_add_plane((const uint8_t *)code, strlen(code), flight, start, end, book, length);
+    booked(b, code, wanted);
+    changed(before, b, code);
+}
+
+static void add_space(const char *code, uint32_t flight, uint32_t start, uint32_t end, size_t length, const char *wanted) {
+    static hg_reservation before[RECORDS];
+    memcpy(before, book, sizeof book);
+    hg_booked b = hg_book_add_space((const uint8_t *)code, strlen(code), flight, start, end, book, length);
+    booked(b, code, wanted);
+    changed(before, b, code);
+}
+
+static void release(uint32_t flight, size_t length, const char *wanted) {
+    static hg_reservation before[RECORDS];
+    memcpy(before, book, sizeof book);
+    hg_booked b = hg_book_release(flight, book, length);
+    booked(b, "release", wanted);
+    changed(before, b, "release");
+}
+
+/* The record at a place, all its numbers. */
+static void record(size_t at, const char *wanted) {
+    char got[160];
+    const hg_reservation *r = &book[at];
+    int n = snprintf(got, sizeof got, "%" PRIu32 " %" PRIu32 ", %" PRIu32 " %" PRId32 " %" PRId32 " %" PRIu32 " %" PRIu32, r->live, r->flight, r->level,
+                     r->west, r->south, r->width, r->height);
+    snprintf(got + n, sizeof got - (size_t)n, ", %" PRId32 " %" PRIu32 ", %" PRIu32 " %" PRIu32, r->floor, r->thickness, r->start, r->end);
+    held(strcmp(got, wanted) == 0, wanted, got);
+}
+
+/* A planner's day, on a book of four records: minutes that touch, cells that touch, conflicts, release, and the record used again. */
+static void day(void) {
+    memset(book, 0, sizeof book);
+    add_plane("N31A", 7, 60, 120, 4, "at 0");
+    record(0, "1 7, 1 0 0 44236800 29491200, 0 1887436800, 60 120");
+    add_plane("N31A", 8, 120, 121, 4, "at 1"); /* begins when flight 7 ends */
+    add_plane("N31A", 9, 0, 60, 4, "at 2");    /* ends when it begins */
+    release(9, 4, "at 2");
+    record(2, "0 9, 1 0 0 44236800 29491200, 0 1887436800, 0 60");
+    add_plane("N31A00", 9, 119, 121, 4, "refused 16 0 1");
+    add_plane("N31A00", 9, 120, 121, 4, "refused 16 1 1");
+    add_plane("N32A", 9, 60, 121, 4, "at 2"); /* touches in the east */
+    add_plane("N31B", 9, 60, 121, 4, "refused 15 0 1");
+    add_plane("N31B", 10, 60, 121, 4, "at 3"); /* touches in the north */
+    release(10, 4, "at 3");
+    add_space("N131A63", 10, 60, 121, 4, "at 3"); /* touches from below: layers -29491200 to -1 */
+    record(3, "1 10, 1 0 0 44236800 29491200, -29491200 29491200, 60 121");
+    add_space("N031A00", 11, 60, 61, 4, "refused 16 0 1");
+    add_plane("S31A", 11, 60, 61, 4, "refused 17 0 1");
+    release(7, 4, "at 0");
+    release(7, 4, "refused 18 0 1");
+    add_plane("N31A00", 12, 120, 121, 4, "refused 16 1 1"); /* the first record is not live, and counts */
+    add_space("N031A00", 11, 60, 61, 4, "at 0");
+    record(0, "1 11, 1 0 0 44236800 29491200, 0 29491200, 60 61");
+    add_space("N131A630070100E00E01007007007007", 12, 60, 61, 4, "refused 16 3 1"); /* layer -1 */
+}
+
+/* Each refusal of the book where those after it apply too; books of 256 and 257 records; records that name nothing. */
+static void refusals(void) {
+    memset(book, 0, sizeof book);
+    for (uint32_t i = 0; i < RECORDS; i++) {
+        book[i].live = i % 2 ? 1 : UINT32_MAX;
+        book[i].flight = i;
+    }
+    add_plane("n31A0", 3, 1, 1, RECORDS, "refused 19 0 1");
+    add_space("n31A0", 3, 1, 1, RECORDS, "refused 19 0 1");
+    release(3, RECORDS, "refused 19 0 1");
+    release(999, RECORDS, "refused 19 0 1");
+    add_plane("n31A0", 3, 1, 1, MOST, "refused 6 0 1");
+    add_space("n031A0", 3, 1, 1, MOST, "refused 6 0 1");
+    add_plane("N00A", 3, 1, 1, MOST, "refused 7 3 1");
+    add_space("N031A64", 3, 1, 1, MOST, "refused 7 6 1");
+    add_space("N031A000000000F", 3, 1, 1, MOST, "refused 7 14 1"); /* a code of edition 2 */
+    add_plane("N31A", 3, 1, 1, MOST, "refused 14 0 1");
+    add_plane("N31A", 3, UINT32_MAX, 0, MOST, "refused 14 0 1");
+    add_plane("N31A", 3, 1, 2, MOST, "refused 15 0 1");
+    add_plane("N31A", 999, 1, 2, MOST, "refused 17 0 1");
+    release(999, MOST, "refused 18 0 1");
+    release(255, MOST, "at 255");
+    add_plane("N31A", 255, 1, 2, MOST, "at 255");
+    add_plane("N31A", 999, 1, 2, MOST, "refused 16 255 1"); /* before 17 */
+    add_plane("N31A", 255, 1, 2, MOST, "refused 15 0 1");   /* before 16 */
+    add_plane("N31A", 999, 1, 2, 0, "refused 17 0 1");
+    release(255, 0, "refused 18 0 1");
+    book[5].live = book[6].live = 0;
+    add_plane("N30A", 999, 1, 2, MOST, "at 5");
+    book[9].flight = 7;
+    book[7].live = 2;
+    release(7, MOST, "at 7");
+    release(7, MOST, "at 9");
+    release(7, MOST, "refused 18 0 1");
+}
+
+/* 180 degrees and the poles: cells that pass 180, a cap against a belt cell; and lent records with numbers that no code has. */
+static void globe(void) {
+    memset(book, 0, sizeof book);
+    add_plane("N00002", 1, 0, 9, 4, "at 0"); /* 89 to 89.5 degrees, from 120 through 180 to 240 */
+    add_plane("N00021", 2, 0, 9, 4, "at 1"); /* 88 to 88.5 degrees, from 180 to 240 */
+    add_plane("N000", 3, 8, 9, 4, "refused 16 0 1");
+    add_plane("N00000", 3, 8, 9, 4, "at 2"); /* the cap touches the disc's other cells, and no belt cell */
+    add_plane("N000000", 4, 8, 9, 4, "refused 16 2 1");
+    add_plane("N01V", 4, 0, 9, 4, "at 3"); /* up to 88 degrees */
+    memset(book, 0, sizeof book);
+    add_plane("N01A", 1, 0, 9, 4, "at 0"); /* from 180 eastward */
+    add_plane("N60A", 2, 0, 9, 4, "at 1"); /* up to 180 */
+    static const struct { int32_t west; uint32_t width; int32_t south; uint32_t height; int32_t floor; uint32_t thickness; const char *wanted; } lent[] = {
+        {1327104000, 1, INT32_MIN, UINT32_MAX, -5, UINT32_MAX, "refused 16 0 1"}, /* 180 degrees is -180 */
+        {1327103999, 1, INT32_MIN, UINT32_MAX, -5, UINT32_MAX, "at 1"},
+        {-1327104001, 1, INT32_MIN, UINT32_MAX, -5, UINT32_MAX, "at 1"},
+        {-1327104001, 2, INT32_MIN, UINT32_MAX, -5, UINT32_MAX, "refused 16 0 1"},
+        {-1282867200, 2609971200u, INT32_MIN, UINT32_MAX, -5, UINT32_MAX, "at 1"}, /* all but zone 01 */
+        {-1282867200, 2609971201u, INT32_MIN, UINT32_MAX, -5, UINT32_MAX, "refused 16 0 1"},
+        {0, 2654208000u, INT32_MIN, UINT32_MAX, -5, UINT32_MAX, "refused 16 0 1"}, /* a full turn */
+        {0, 2654208001u, INT32_MIN, UINT32_MAX, -5, UINT32_MAX, "refused 16 0 1"}, /* and more */
+        {INT32_MAX, UINT32_MAX, INT32_MIN, UINT32_MAX, -5, UINT32_MAX, "refused 16 0 1"},
+        {-1327104000, 0, INT32_MIN, UINT32_MAX, -5, UINT32_MAX, "at 1"}, /* a size of 0 */
+        {0, UINT32_MAX, 5, 0, -5, UINT32_MAX, "at 1"},
+        {0, UINT32_MAX, 5, 1, 5, 0, "at 1"},
+        {0, UINT32_MAX, INT32_MIN, 1, 0, 1, "at 1"}, /* far outside the globe */
+        {0, UINT32_MAX, 29491200, UINT32_MAX, -5, UINT32_MAX, "at 1"}, /* all that is north of N01A */
+        {0, UINT32_MAX, 29491199, UINT32_MAX, -5, UINT32_MAX, "refused 16 0 1"},
+        {0, UINT32_MAX, 0, 1, INT32_MIN, 2147483648u, "at 1"}, /* all below ground */
+        {0, UINT32_MAX, 0, 1, INT32_MIN, 2147483649u, "refused 16 0 1"},
+    };
+    for (size_t i = 0; i < sizeof lent / sizeof lent[0]; i++) {
+        memset(book, 0, sizeof book);
+        hg_reservation r = {UINT32_MAX, 9, 77, lent[i].west, lent[i].south, lent[i].width, lent[i].height, lent[i].floor, lent[i].thickness, 0, UINT32_MAX};
+        book[0] = r;
+        add_plane("N01A", 1, 7, 8, 2, lent[i].wanted);
+    }
+    book[0].start = 60;
+    book[0].end = 50; /* no minute, no conflict */
+    add_plane("N01A", 2, 0, 100, 2, "at 1");
+}
+
 int main(void) {
     plane(10, 0, 0, "N31A0000000000000000");                        /* P1 */
     plane(10, -1, 0, "N30A0000000000000000");                       /* P2 */
@@ -225,6 +387,9 @@ int main(void) {
     cell("N31A", "1 0 0 44236800 29491200");
     editions();
     ends();
+    day();
+    refusals();
+    globe();
     printf("%d cases, %d otherwise\n", asked, wrong);
     return wrong != 0;
 }

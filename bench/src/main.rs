@@ -7,8 +7,11 @@
 //! bench --instructions NAME ours|other PASSES   one side of one row, PASSES times 4096 calls, untimed: instructions.sh counts them.
 
 mod arcseconds;
+mod book;
+mod book_inputs;
 mod inputs;
 mod plain;
+mod plain_book;
 mod plain_reference;
 mod plain_space;
 mod plane;
@@ -26,6 +29,7 @@ fn rows() -> Vec<Row> {
     rows.extend(space::rows(&mut dice));
     rows.extend(reference::rows(&mut dice));
     rows.extend(arcseconds::rows(&mut dice));
+    rows.extend(book::rows(&mut dice));
     rows
 }
 

@@ -1,10 +1,13 @@
-//! What to compare: random numbers from a seed, squares of every kind; below, edges, codes, readings and the document's own cases.
+//! What to compare: random numbers from a seed, squares of every kind; below, edges, codes, readings, records of the book and
+//! the document's own cases.
 
+mod bookings;
 mod codes;
 mod document;
 mod edges;
 mod readings;
 
+pub use bookings::*;
 pub use codes::*;
 pub use document::*;
 pub use edges::*;

@@ -1,12 +1,14 @@
-//! The oracle: document 01, and of document 02 Wishes 1 and 2, written a second
+//! The oracle: document 01, and of document 02 Wishes 1 to 3, written a second
 //! time, from the documents alone.
 //!
 //! Plane codes stand here twice. `plane::listing` lists every cell that a cell
 //! is divided into, just as the document describes them, and looks for the one
 //! that is meant. `plane::write` and `plane::walk` are quick; each run of
-//! `compare` holds them against the listing before they are trusted.
+//! `compare` holds them against the listing before they are trusted. So it is
+//! with conflicts: `book` is quick, `book::plain` is plain.
 
 pub mod arcseconds;
+pub mod book;
 pub mod cases;
 pub mod layers;
 pub mod lines;

@@ -18,6 +18,7 @@ macro_rules! laid_out {
                 true $(&& self.$field.to_le_bytes() == other.$field.to_le_bytes())+
             }
         }
+        impl Eq for $name {}
     };
 }
 
@@ -37,6 +38,11 @@ laid_out!(
 );
 laid_out!(HgUnits, 24, refusal at 0: HgRefusal, longitude at 16: i32, latitude at 20: i32);
 laid_out!(HgBox, 48, refusal at 0: HgRefusal, west at 16: f64, south at 24: f64, width at 32: f64, height at 40: f64);
+laid_out!(
+    HgReservation, 44, live at 0: u32, flight at 4: u32, level at 8: u32, west at 12: i32, south at 16: i32, width at 20: u32, height at 24: u32,
+    floor at 28: i32, thickness at 32: u32, start at 36: u32, end at 40: u32
+);
+laid_out!(HgBooked, 24, refusal at 0: HgRefusal, at at 16: u64);
 
 extern "C" {
     pub fn hg_plane_write(level: i64, longitude: i64, latitude: i64, line: *mut u8, length: usize, at: usize) -> HgWritten;
@@ -64,12 +70,31 @@ extern "C" {
     pub fn hg_reference_read(code: *const u8, code_length: usize, line: *mut u8, length: usize, at: usize) -> HgWritten;
     pub fn hg_arcseconds(longitude: f64, latitude: f64) -> HgUnits;
     pub fn hg_plane_box(code: *const u8, length: usize) -> HgBox;
+    pub fn hg_book_add_plane(
+        code: *const u8,
+        code_length: usize,
+        flight: u32,
+        start: u32,
+        end: u32,
+        book: *mut HgReservation,
+        length: usize,
+    ) -> HgBooked;
+    pub fn hg_book_add_space(
+        code: *const u8,
+        code_length: usize,
+        flight: u32,
+        start: u32,
+        end: u32,
+        book: *mut HgReservation,
+        length: usize,
+    ) -> HgBooked;
+    pub fn hg_book_release(flight: u32, book: *mut HgReservation, length: usize) -> HgBooked;
 }
 
 /// The same calls on whole slices: the pointer and the length come from one slice, so the library gets memory that it may read, or write, for the
-/// time of the call, and no line overlaps a code.
+/// time of the call, and no line or book overlaps a code.
 pub mod lent {
-    use crate::{HgBox, HgPlaneCell, HgSpaceCell, HgUnits, HgWritten};
+    use crate::{HgBooked, HgBox, HgPlaneCell, HgReservation, HgSpaceCell, HgUnits, HgWritten};
 
     #[inline(always)]
     pub fn plane_write(level: i64, longitude: i64, latitude: i64, line: &mut [u8], at: usize) -> HgWritten {
@@ -109,5 +134,20 @@ pub mod lent {
     #[inline(always)]
     pub fn plane_box(code: &[u8]) -> HgBox {
         unsafe { crate::hg_plane_box(code.as_ptr(), code.len()) }
+    }
+
+    #[inline(always)]
+    pub fn book_add_plane(code: &[u8], flight: u32, start: u32, end: u32, book: &mut [HgReservation]) -> HgBooked {
+        unsafe { crate::hg_book_add_plane(code.as_ptr(), code.len(), flight, start, end, book.as_mut_ptr(), book.len()) }
+    }
+
+    #[inline(always)]
+    pub fn book_add_space(code: &[u8], flight: u32, start: u32, end: u32, book: &mut [HgReservation]) -> HgBooked {
+        unsafe { crate::hg_book_add_space(code.as_ptr(), code.len(), flight, start, end, book.as_mut_ptr(), book.len()) }
+    }
+
+    #[inline(always)]
+    pub fn book_release(flight: u32, book: &mut [HgReservation]) -> HgBooked {
+        unsafe { crate::hg_book_release(flight, book.as_mut_ptr(), book.len()) }
     }
 }

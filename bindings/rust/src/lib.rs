@@ -1,8 +1,9 @@
-//! The codes of the BeiDou grid (GB/T 39409-2020): plane, space and reference codes, arc-second readings and boxes.
+//! The codes of the BeiDou grid (GB/T 39409-2020): plane, space and reference codes, arc-second readings and boxes, and the book of the
+//! cells that flights hold.
 //!
 //! Every call takes any numbers and any bytes, and answers with a result or with exactly one [`Refusal`]. Nothing is clipped, and a
-//! refusal changes no byte of a line that was lent. The work is done by a library whose every function is proved; this crate only
-//! wraps its C interface.
+//! refusal changes nothing that was lent. The work is done by a library whose every function is proved; this crate only wraps its C
+//! interface.
 //!
 //! Longitudes run from -1,327,104,000 to 1,327,104,000 units, -180 to 180 degrees, and latitudes from -663,552,000 to 663,552,000, -90
 //! to 90 degrees: 180 degrees stands for -180, and 90 for the unit south of it at the same longitude. The west of a cell that
@@ -11,6 +12,10 @@
 //! Space codes have two editions, and the caller names one by its number: 1 is the grid's own, with layers from -1,887,436,800 to
 //! 1,887,436,799; 2 cuts the layer by bits (annex C.14 of the standard), with layers from -2,147,483,648 to 2,147,483,647. Nothing in a
 //! code says its edition.
+//!
+//! A book is a slice of at most 256 [`Reservation`]s that the caller lends. Two of them conflict when they share a unit cube and a minute,
+//! and only live ones count. From a book with nothing live, whatever calls are made, each lent the same whole book as the last one left
+//! it, no two live reservations conflict.
 //!
 //! ```
 //! let mut line = *b"................";
@@ -53,10 +58,22 @@ pub enum Reason {
     PolarTarget = 12,
     /// edition neither 1 nor 2
     Edition = 13,
+    /// start not before end
+    Minutes = 14,
+    /// a live record has the flight number already
+    AlreadyLive = 15,
+    /// a live record shares a unit cube and a minute with what is asked
+    Conflict = 16,
+    /// every record is live, as in a book of no records
+    AllLive = 17,
+    /// no live record has the flight number
+    NotLive = 18,
+    /// the book has more than 256 records
+    BookTooLong = 19,
 }
 
 /// Each reason with its words: place n - 1 has number n.
-const REASONS: [(Reason, &str); 13] = [
+const REASONS: [(Reason, &str); 19] = [
     (Reason::Level, "level outside 1 to 10"),
     (Reason::Longitude, "longitude outside its range"),
     (Reason::Latitude, "latitude outside its range"),
@@ -70,6 +87,12 @@ const REASONS: [(Reason, &str); 13] = [
     (Reason::NotANumber, "either arc-second reading is not a number"),
     (Reason::PolarTarget, "a reference read leads to 88 degrees or nearer a pole"),
     (Reason::Edition, "edition neither 1 nor 2"),
+    (Reason::Minutes, "start not before end"),
+    (Reason::AlreadyLive, "a live record has the flight number already"),
+    (Reason::Conflict, "a live record shares a unit cube and a minute with what is asked"),
+    (Reason::AllLive, "every record is live"),
+    (Reason::NotLive, "no live record has the flight number"),
+    (Reason::BookTooLong, "the book has more than 256 records"),
 ];
 
 /// A refusal: no result, and no byte that was lent was changed.
@@ -84,7 +107,8 @@ const REASONS: [(Reason, &str); 13] = [
 pub struct Refusal {
     /// Why.
     pub reason: Reason,
-    /// The place of the first bad character, counted from 0, for [`Reason::Character`]; no other reason has one.
+    /// The place of the first bad character for [`Reason::Character`], and of the first conflicting record for [`Reason::Conflict`], counted
+    /// from 0; no other reason has one.
     pub place: Option<usize>,
     /// 2 where a length or a character of a second code is meant, else 1.
     pub ordinal: u32,
@@ -98,7 +122,7 @@ impl Refusal {
 
     fn of(refusal: raw::HgRefusal) -> Refusal {
         let (reason, _) = REASONS[refusal.number as usize - 1];
-        let place = (reason == Reason::Character).then_some(refusal.place as usize);
+        let place = matches!(reason, Reason::Character | Reason::Conflict).then_some(refusal.place as usize);
         Refusal { reason, place, ordinal: refusal.ordinal }
     }
 }
@@ -166,6 +190,15 @@ pub struct ArcBox {
     pub height: f64,
 }
 
+/// A record of a book, as it stands in C: `live`, the live mark (0 is not live, any other number is); `flight`, the flight's number; `level`,
+/// `west`, `south`, `width`, `height`, `floor` and `thickness`, its cell as [`SpaceCell`] has it; `start` and `end`, its minutes, the end
+/// not included. [`Reservation::default`] is not live.
+///
+/// Any numbers make a record. Its cubes are those that they name as whole numbers: longitudes a full turn apart are the same, no sum
+/// wraps at 32 bits, and a size of 0 names none. No rule looks at the level.
+#[doc(inline)]
+pub use raw::HgReservation as Reservation;
+
 fn answer<T>(refusal: raw::HgRefusal, value: T) -> Result<T, Refusal> {
     match refusal.number {
         0 => Ok(value),
@@ -175,6 +208,10 @@ fn answer<T>(refusal: raw::HgRefusal, value: T) -> Result<T, Refusal> {
 
 fn written(w: raw::HgWritten) -> Result<usize, Refusal> {
     answer(w.refusal, w.length as usize)
+}
+
+fn booked(b: raw::HgBooked) -> Result<usize, Refusal> {
+    answer(b.refusal, b.at as usize)
 }
 
 /// Writes the plane code of a level for a position into the line from `at` on; the number of bytes. Refusals, in order: 1, 2, 3, 5.
@@ -300,4 +337,54 @@ pub fn arcseconds(longitude: f64, latitude: f64) -> Result<Units, Refusal> {
 pub fn plane_box(code: &[u8]) -> Result<ArcBox, Refusal> {
     let b = raw::lent::plane_box(code);
     answer(b.refusal, ArcBox { west: b.west, south: b.south, width: b.width, height: b.height })
+}
+
+/// Adds a reservation to a book: a flight holds a plane code's cell, with layers 0 to 1,887,436,799, for the minutes from `start` to `end`,
+/// the end not included. The first record that is not live becomes this one; its place. Refusals, in order: 19, 6, 7, 14, 15, 16, 17.
+///
+/// ```
+/// use hailgully::{book_add_plane, Reason, Reservation};
+/// let mut book = [Reservation::default(); 2];
+/// assert_eq!(book_add_plane(b"N31A", 7, 600, 660, &mut book), Ok(0));
+/// assert_eq!((book[0].live, book[0].flight, book[0].floor, book[0].thickness), (1, 7, 0, 1_887_436_800));
+/// // N31A00 lies in N31A: the last minute that flight 7 holds is 659.
+/// let refusal = book_add_plane(b"N31A00", 8, 659, 700, &mut book).unwrap_err();
+/// assert_eq!((refusal.reason, refusal.place), (Reason::Conflict, Some(0)));
+/// assert_eq!(book[1], Reservation::default());
+/// assert_eq!(book_add_plane(b"N31A00", 8, 660, 700, &mut book), Ok(1));
+/// assert_eq!(book_add_plane(b"N31A01", 9, 660, 700, &mut book).unwrap_err().to_string(), "refused 17: every record is live");
+/// ```
+pub fn book_add_plane(code: &[u8], flight: u32, start: u32, end: u32, book: &mut [Reservation]) -> Result<usize, Refusal> {
+    booked(raw::lent::book_add_plane(code, flight, start, end, book))
+}
+
+/// The same with a space code of edition 1, whose cell has layers of its own. Refusals, in order: 19, 6, 7, 14, 15, 16, 17.
+///
+/// ```
+/// use hailgully::{book_add_plane, book_add_space, Reason, Reservation};
+/// let mut book = [Reservation::default(); 2];
+/// assert_eq!(book_add_plane(b"N31A", 7, 600, 660, &mut book), Ok(0));
+/// // Layers 0 to 29,491,199 of the same sheet; then layers -29,491,200 to -1, below ground.
+/// assert_eq!(book_add_space(b"N031A00", 9, 600, 660, &mut book).unwrap_err().reason, Reason::Conflict);
+/// assert_eq!(book_add_space(b"N131A63", 9, 600, 660, &mut book), Ok(1));
+/// assert_eq!((book[1].floor, book[1].thickness), (-29_491_200, 29_491_200));
+/// ```
+pub fn book_add_space(code: &[u8], flight: u32, start: u32, end: u32, book: &mut [Reservation]) -> Result<usize, Refusal> {
+    booked(raw::lent::book_add_space(code, flight, start, end, book))
+}
+
+/// Releases a flight: the live mark of the first live record with its number becomes 0, and nothing else changes; that record's place.
+/// Refusals, in order: 19, 18.
+///
+/// ```
+/// use hailgully::{book_add_plane, book_release, Reason, Reservation};
+/// let mut book = [Reservation::default(); 2];
+/// assert_eq!(book_add_plane(b"N31A", 7, 600, 660, &mut book), Ok(0));
+/// assert_eq!(book_release(7, &mut book), Ok(0));
+/// assert_eq!((book[0].live, book[0].flight), (0, 7));
+/// assert_eq!(book_release(7, &mut book).unwrap_err().reason, Reason::NotLive);
+/// assert_eq!(book_add_plane(b"N31A", 8, 600, 660, &mut book), Ok(0));
+/// ```
+pub fn book_release(flight: u32, book: &mut [Reservation]) -> Result<usize, Refusal> {
+    booked(raw::lent::book_release(flight, book))
 }

@@ -64,7 +64,7 @@ pub struct SpaceCell {
     pub thickness: u32,
 }
 
-// A refusal: its number in document 01's table, the place of the first bad character, and which code it is about.
+// A refusal: its number in the documents, the place that it speaks of (a bad character's, or a record's), and which code it is about.
 pub struct Refusal {
     pub number: u32,
     pub place: usize,

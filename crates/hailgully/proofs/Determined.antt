@@ -24,12 +24,20 @@ use Rattle.arcseconds.specs.Readings.{unitsOf, unitsRead}
 use Rattle.arcseconds.specs.Boxes.{BoxSays}
 use Rattle.arcseconds.proofs.Exact.{one-exactly}
 use Rattle.arcseconds.proofs.Theorems as arc
+use Rattle.reservations.specs.declared.Reservation.{Reservation}
+use Rattle.book.specs.declared.Ask.{Ask}
+use Rattle.book.specs.declared.Booked.{Booked}
+use Rattle.book.specs.declared.Booked.the-variants as book-as
+use Rattle.book.specs.declared.Done.{Done}
+use Rattle.book.specs.Asking.{planeRecord, spaceRecord, toAdd, toRelease}
+use Rattle.book.specs.Book.{carried, usedIn, booked}
+use Rattle.hailgully.specs.declared.HgBooked.{HgBooked}
 use Rattle.hailgully.specs.declared.HgPlaneCell.{HgPlaneCell}
 use Rattle.hailgully.specs.declared.HgRefusal.{HgRefusal}
 use Rattle.hailgully.specs.declared.HgSpaceCell.{HgSpaceCell}
 use Rattle.hailgully.specs.declared.HgUnits.{HgUnits}
 use Rattle.hailgully.specs.declared.HgWritten.{HgWritten}
-use Rattle.hailgully.specs.Results.{writtenOf, planeCellOf, spaceCellFor, unitsFor, BoxIs, BoxFor}
+use Rattle.hailgully.specs.Results.{writtenOf, planeCellOf, spaceCellFor, unitsFor, bookedFor, BoxIs, BoxFor}
 use Rattle.hailgully.specs.Determined.{Determined}
 
 -- ---- the library's calls
@@ -72,6 +80,18 @@ arcseconds-read longitude latitude a b e f = arc.one-units-read longitude latitu
 -- the f64 results too
 pub plane-box : (code : List ℕ) → Determined (BoxSays (cellOf code))
 plane-box code a b e f = arc.one-box-read (cellOf code) a b e f
+
+booked-one : (a b : Booked) → booked a ≡ booked b → a ≡ b
+booked-one (book-as.At k) (book-as.At j) e = cc
+booked-one (book-as.At k) (book-as.Refused r) e = clash (cc)
+booked-one (book-as.Refused r) (book-as.At k) e = clash (cc)
+booked-one (book-as.Refused r) (book-as.Refused q) e = cc
+
+-- the answer, the record used, and every record of the book
+pub book-run : (q : Ask) (book : List Reservation)
+    → Determined (λ (r : Done × List Reservation). (booked (r .0 .answer) ≡ carried q book .0) × (r .0 .used ≡ usedIn (carried q book)) × (r .1 ≡ carried q book .1))
+book-run q book a b e f =
+    λ j. (record { answer = booked-one (a .0 .answer) (b .0 .answer) (e .0 ∙ sym (f .0)) j; used = (e .1 ∙ sym (f .1)) j }, (e .2 ∙ sym (f .2)) j)
 
 -- ---- their C forms
 
@@ -126,3 +146,19 @@ hg-plane-box code = go (cellOf code)
     go : (answer : Answer Cell) → Determined (BoxFor answer)
     go (accepted c) = one-box-is
     go (refused r) = one-box-is
+
+-- what is asked of a book, carried out
+hg-booked-one : (q : Ask) (book : List Reservation) → Determined (λ (r : HgBooked × List Reservation). (r .0 ≡ bookedFor (carried q book .0)) × (r .1 ≡ carried q book .1))
+hg-booked-one q book a b e f = λ j. (equal (a .0) (b .0) (e .0) (f .0) j, equal (a .1) (b .1) (e .1) (f .1) j)
+
+pub hg-book-add-plane : (code : List ℕ) (flight start end : ℕ) (book : List Reservation)
+    → Determined (λ (r : HgBooked × List Reservation). (r .0 ≡ bookedFor (carried (toAdd (planeRecord code flight start end)) book .0)) × (r .1 ≡ carried (toAdd (planeRecord code flight start end)) book .1))
+hg-book-add-plane code flight start end book = hg-booked-one (toAdd (planeRecord code flight start end)) book
+
+pub hg-book-add-space : (code : List ℕ) (flight start end : ℕ) (book : List Reservation)
+    → Determined (λ (r : HgBooked × List Reservation). (r .0 ≡ bookedFor (carried (toAdd (spaceRecord code flight start end)) book .0)) × (r .1 ≡ carried (toAdd (spaceRecord code flight start end)) book .1))
+hg-book-add-space code flight start end book = hg-booked-one (toAdd (spaceRecord code flight start end)) book
+
+pub hg-book-release : (flight : ℕ) (book : List Reservation)
+    → Determined (λ (r : HgBooked × List Reservation). (r .0 ≡ bookedFor (carried (toRelease flight) book .0)) × (r .1 ≡ carried (toRelease flight) book .1))
+hg-book-release flight book = hg-booked-one (toRelease flight) book

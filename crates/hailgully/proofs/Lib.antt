@@ -1,2 +1,4 @@
 pub mod Boxes
+pub mod Lending
+pub mod Adds
 pub mod Determined

@@ -2,6 +2,6 @@
 -- Assumes nothing.
 use mathlib.Core.Path.{_≡_}
 
--- two results that one contract allows are equal; where a line is lent, the result is the answer and every byte of the line
+-- two results that one contract allows are equal; where a line or a book is lent, the result is the answer and every byte or record of it
 abbrev pub Determined : {A : Type 0} → (A → Type 0) → Type 0
 Determined {A} Allowed = (a b : A) → Allowed a → Allowed b → a ≡ b

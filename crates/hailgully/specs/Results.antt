@@ -16,6 +16,7 @@ use Rattle.hailgully.specs.declared.HgPlaneCell.{HgPlaneCell}
 use Rattle.hailgully.specs.declared.HgSpaceCell.{HgSpaceCell}
 use Rattle.hailgully.specs.declared.HgUnits.{HgUnits}
 use Rattle.hailgully.specs.declared.HgBox.{HgBox}
+use Rattle.hailgully.specs.declared.HgBooked.{HgBooked}
 
 -- no refusal: all zeros
 abbrev pub noRefusal : HgRefusal
@@ -29,6 +30,11 @@ refusalOf r = record { number = r .number; ordinal = r .ordinal; place = r .plac
 unfoldable pub writtenOf : Answer ℕ → HgWritten
 writtenOf (accepted n) = record { refusal = noRefusal; length = n }
 writtenOf (refused r) = record { refusal = refusalOf r; length = 0 }
+
+-- an answer of the book
+unfoldable pub bookedFor : Answer ℕ → HgBooked
+bookedFor (accepted k) = record { refusal = noRefusal; at = k }
+bookedFor (refused r) = record { refusal = refusalOf r; at = 0 }
 
 -- a plane reader's answer
 unfoldable pub planeCellOf : Answer Cell → HgPlaneCell

@@ -11,16 +11,21 @@ ghost use Rattle.space.specs.Space.{spaceText, spaceRead};
 ghost use Rattle.reference.specs.Text.{referenceText, targetText};
 ghost use Rattle.arcseconds.specs.Readings.{unitsOf, unitsRead};
 ghost use Rattle.arcseconds.specs.Boxes.{BoxOf};
-ghost use Rattle.hailgully.specs.Results.{noRefusal, refusalOf, writtenOf, planeCellOf, spaceCellFor, unitsFor, boxWith, zeroCell, BoxIs, BoxFor};
+ghost use Rattle.book.specs.Asking.{planeRecord, spaceRecord, toAdd, toRelease};
+ghost use Rattle.book.specs.Book.{carried, booked};
+ghost use Rattle.hailgully.specs.Results.{noRefusal, refusalOf, writtenOf, planeCellOf, spaceCellFor, unitsFor, bookedFor, boxWith, zeroCell, BoxIs, BoxFor};
 use arcseconds::ArcBox;
 use arcseconds::BoxRead;
 use arcseconds::Units;
 use arcseconds::UnitsRead;
+use book::Booked;
+use book::Done;
 use grid::Cell;
 use grid::PlaneRead;
 use grid::Refusal;
 use grid::SpaceCell;
 use grid::Written;
+use reservations::Reservation;
 use space::SpaceRead;
 
 #[repr(C)]
@@ -72,6 +77,12 @@ pub struct HgBox {
     pub south: f64,
     pub width: f64,
     pub height: f64,
+}
+
+#[repr(C)]
+pub struct HgBooked {
+    pub refusal: HgRefusal,
+    pub at: u64,
 }
 
 fn no_refusal() -> HgRefusal
@@ -244,6 +255,22 @@ fn box_refused(r: Refusal) -> HgBox
     boxed(refusal_of(r), zeros())
 }
 
+fn booked_of(d: Done) -> HgBooked
+    ensures { λ r. ⌜ r ≡ bookedFor (booked (d .answer)) ⌝ }
+{
+    let a = d.answer;
+    match a {
+        Booked::At(k) => HgBooked {
+            refusal: no_refusal(),
+            at: k as u64,
+        },
+        Booked::Refused(r) => HgBooked {
+            refusal: refusal_of(r),
+            at: 0,
+        },
+    }
+}
+
 // Writes the plane code of a level for a position. Refusals, in order: 1, 2, 3, 5.
 #[no_mangle]
 pub extern "C" fn hg_plane_write(
@@ -328,4 +355,47 @@ pub extern "C" fn hg_plane_box(code: &[u8]) -> HgBox
         BoxRead::Found(b) => boxed(no_refusal(), b),
         BoxRead::Refused(r) => box_refused(r),
     }
+}
+
+// Adds a reservation of a plane code's cell, over the layers that it stands for, to a book: for a flight, and the minutes from start to end, the end
+// not included. Refusals, in order: 19, 6, 7, 14, 15, 16 with the place of the first record in conflict, 17.
+#[no_mangle]
+pub extern "C" fn hg_book_add_plane(
+    code: &[u8],
+    flight: u32,
+    start: u32,
+    end: u32,
+    book: &mut [Reservation],
+) -> HgBooked
+    ensures { λ r. ⌜ (r ≡ bookedFor (carried (toAdd (planeRecord (now (code .entry)) flight start end)) (now (book .entry)) .0)) × (now (book .exit) ≡ carried (toAdd (planeRecord (now (code .entry)) flight start end)) (now (book .entry)) .1) ⌝ }
+{
+    let q = book::ask_plane(code, flight, start, end);
+    let d = book::run(book, q);
+    booked_of(d)
+}
+
+// The same of a space code of edition 1 and its space cell. Refusals, in order: 19, 6, 7, 14, 15, 16 with the place, 17.
+#[no_mangle]
+pub extern "C" fn hg_book_add_space(
+    code: &[u8],
+    flight: u32,
+    start: u32,
+    end: u32,
+    book: &mut [Reservation],
+) -> HgBooked
+    ensures { λ r. ⌜ (r ≡ bookedFor (carried (toAdd (spaceRecord (now (code .entry)) flight start end)) (now (book .entry)) .0)) × (now (book .exit) ≡ carried (toAdd (spaceRecord (now (code .entry)) flight start end)) (now (book .entry)) .1) ⌝ }
+{
+    let q = book::ask_space(code, flight, start, end);
+    let d = book::run(book, q);
+    booked_of(d)
+}
+
+// Turns off the live mark of the first live record with the flight number. Refusals, in order: 19, 18.
+#[no_mangle]
+pub extern "C" fn hg_book_release(flight: u32, book: &mut [Reservation]) -> HgBooked
+    ensures { λ r. ⌜ (r ≡ bookedFor (carried (toRelease flight) (now (book .entry)) .0)) × (now (book .exit) ≡ carried (toRelease flight) (now (book .entry)) .1) ⌝ }
+{
+    let q = book::ask_release(flight);
+    let d = book::run(book, q);
+    booked_of(d)
 }

@@ -1,6 +1,7 @@
 //! The library's calls, each with its refusals in the documents' order ("Orders"). What a run must meet is derived from this one table. A call that
 //! is told an edition stands here once for each, since each edition must meet everything.
 
+use hailgully_tests::book::Kind;
 use hailgully_tests::space::Edition;
 
 #[derive(Clone, Copy, Debug, PartialEq, Eq)]
@@ -15,6 +16,9 @@ pub enum Call {
     ReferenceRead,
     Arcseconds,
     PlaneBox,
+    BookAddPlane,
+    BookAddSpace,
+    BookRelease,
 }
 
 use Call::*;
@@ -23,12 +27,25 @@ use Call::*;
 pub type Named = (u32, u32);
 
 /// A refusal, and those before it in the order under which it has no meaning: a code without a level has no length that a line could lack, one
-/// that cannot be read has no cell.
+/// that cannot be read has no cell, and a start not before the end no minute.
 type Ordered = (Named, &'static [Named]);
 
 impl Call {
-    pub const ALL: [Call; 10] =
-        [PlaneWrite, PlaneRead, SpaceWrite1, SpaceRead1, SpaceWrite2, SpaceRead2, ReferenceWrite, ReferenceRead, Arcseconds, PlaneBox];
+    pub const ALL: [Call; 13] = [
+        PlaneWrite,
+        PlaneRead,
+        SpaceWrite1,
+        SpaceRead1,
+        SpaceWrite2,
+        SpaceRead2,
+        ReferenceWrite,
+        ReferenceRead,
+        Arcseconds,
+        PlaneBox,
+        BookAddPlane,
+        BookAddSpace,
+        BookRelease,
+    ];
 
     pub fn space_write(edition: Edition) -> Call {
         match edition {
@@ -44,6 +61,13 @@ impl Call {
         }
     }
 
+    pub fn book_add(kind: Kind) -> Call {
+        match kind {
+            Kind::Plane => BookAddPlane,
+            Kind::Space => BookAddSpace,
+        }
+    }
+
     pub fn name(self) -> &'static str {
         match self {
             PlaneWrite => "hg_plane_write",
@@ -56,6 +80,9 @@ impl Call {
             ReferenceRead => "hg_reference_read",
             Arcseconds => "hg_arcseconds",
             PlaneBox => "hg_plane_box",
+            BookAddPlane => "hg_book_add_plane",
+            BookAddSpace => "hg_book_add_space",
+            BookRelease => "hg_book_release",
         }
     }
 
@@ -77,6 +104,16 @@ impl Call {
             ],
             ReferenceRead => &[((6, 1), &[]), ((7, 1), &[]), ((8, 1), &[(6, 1)]), ((12, 1), &[(6, 1), (7, 1)]), ((5, 1), &[(6, 1)])],
             Arcseconds => &[((11, 1), &[]), ((2, 1), &[]), ((3, 1), &[])],
+            BookAddPlane | BookAddSpace => &[
+                ((19, 1), &[]),
+                ((6, 1), &[]),
+                ((7, 1), &[]),
+                ((14, 1), &[]),
+                ((15, 1), &[]),
+                ((16, 1), &[(6, 1), (7, 1), (14, 1)]),
+                ((17, 1), &[]),
+            ],
+            BookRelease => &[((19, 1), &[]), ((18, 1), &[])],
         }
     }
 

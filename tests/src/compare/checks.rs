@@ -1,5 +1,9 @@
 //! One case of each call: the oracle and the library are asked the same, and every number and every lent byte is compared, of the codes too.
 
+mod book;
+
+pub use book::Books;
+
 use crate::calls::Call;
 use crate::lent::Lent;
 use crate::library::{self, Record};

@@ -5,6 +5,7 @@ use crate::checks::Run;
 use hailgully_tests::cases;
 
 mod arcseconds;
+mod book;
 mod ends;
 mod long;
 mod own;
@@ -38,6 +39,7 @@ pub fn all(huge: bool) -> Vec<Family> {
         space::families(),
         reference::families(),
         arcseconds::families(),
+        book::families(),
     ]
     .into_iter()
     .flatten()

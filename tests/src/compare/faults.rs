@@ -1,11 +1,14 @@
 //! Faults of a library, made between it and the checks: a length, a place or an edition reaches it cut to 8, 16 or 32 bits, a lent byte comes back
-//! changed, or a longitude or latitude is clipped to its range or refused at its upper end. Turned on by number like the oracle's slips, after which
-//! they are numbered; each must be found.
+//! changed, a longitude or latitude is clipped to its range or refused at its upper end, or the book is kept otherwise. Turned on by number like the
+//! oracle's slips, after which they are numbered; each must be found.
 
+pub mod book;
+
+use hailgully_raw::HgReservation;
 use hailgully_tests::slips;
 
 /// The lengths, places and editions that the calls take.
-const SIZES: [&str; 16] = [
+const SIZES: [&str; 21] = [
     "hg_plane_write length",
     "hg_plane_write at",
     "hg_plane_read length",
@@ -22,10 +25,15 @@ const SIZES: [&str; 16] = [
     "hg_reference_read length",
     "hg_reference_read at",
     "hg_plane_box length",
+    "hg_book_add_plane code_length",
+    "hg_book_add_plane length",
+    "hg_book_add_space code_length",
+    "hg_book_add_space length",
+    "hg_book_release length",
 ];
 
 /// What they are lent.
-const LENT: [&str; 10] = [
+const LENT: [&str; 15] = [
     "hg_plane_write line",
     "hg_plane_read code",
     "hg_space_write line",
@@ -36,6 +44,11 @@ const LENT: [&str; 10] = [
     "hg_reference_read code",
     "hg_reference_read line",
     "hg_plane_box code",
+    "hg_book_add_plane code",
+    "hg_book_add_plane book",
+    "hg_book_add_space code",
+    "hg_book_add_space book",
+    "hg_book_release book",
 ];
 
 /// The longitudes and latitudes that they take, in units and in arc-seconds.
@@ -54,13 +67,15 @@ const CUTS: [u32; 3] = [8, 16, 32];
 const CHANGES: usize = SIZES.len() * CUTS.len();
 const CLIPS: usize = CHANGES + LENT.len();
 const ENDS: usize = CLIPS + POSITIONS.len();
-const FAULTS: usize = ENDS + POSITIONS.len();
+const BOOKS: usize = ENDS + POSITIONS.len();
+const FAULTS: usize = BOOKS + book::LIST.len();
 
 enum Fault {
     Cut(&'static str, u32),
     Changed(&'static str),
     Clipped(&'static str),
     EndRefused(&'static str),
+    Book(&'static str),
 }
 
 /// How many slips and faults there are.
@@ -72,6 +87,7 @@ pub fn count() -> u32 {
 fn fault(number: u32) -> Option<Fault> {
     let at = (number as usize).checked_sub(slips::LIST.len() + 1)?;
     Some(match at {
+        BOOKS.. => Fault::Book(book::LIST[at - BOOKS]),
         ENDS.. => Fault::EndRefused(POSITIONS[at - ENDS]),
         CLIPS.. => Fault::Clipped(POSITIONS[at - CLIPS]),
         CHANGES.. => Fault::Changed(LENT[at - CHANGES]),
@@ -97,6 +113,7 @@ pub fn words(number: u32) -> String {
         Some(Fault::Changed(lent)) => format!("the library changes a byte of {lent}"),
         Some(Fault::Clipped(position)) => format!("the library clips {position} to its range"),
         Some(Fault::EndRefused(position)) => format!("the library refuses {position} at its upper end"),
+        Some(Fault::Book(does)) => format!("the library {does}"),
     }
 }
 
@@ -120,6 +137,15 @@ pub fn cut_edition(which: &str, edition: i64) -> i64 {
 pub fn change(lent: &str, bytes: &mut [u8]) {
     match (fault(slips::current()), bytes.last_mut()) {
         (Some(Fault::Changed(which)), Some(byte)) if which == lent => *byte ^= 1,
+        _ => {}
+    }
+}
+
+/// A lent book as it comes back.
+#[inline(always)]
+pub fn change_book(lent: &str, book: &mut [HgReservation]) {
+    match (fault(slips::current()), book.first_mut()) {
+        (Some(Fault::Changed(which)), Some(record)) if which == lent => record.end ^= 1,
         _ => {}
     }
 }

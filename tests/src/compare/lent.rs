@@ -1,6 +1,8 @@
 //! Memory that is lent to a call, between guard bytes. All of it is compared with a twin afterwards, the guard bytes too; of memory of 2^24 bytes
 //! and more both ends are compared, and what lies between them is zeros.
 
+pub mod book;
+
 use hailgully_tests::cases::Random;
 
 const GUARD: usize = 24;

@@ -1,7 +1,9 @@
 //! The library's calls on lent slices, and what each should return for the oracle's answer.
 
-use crate::faults::{change, cut, cut_edition, reading, units};
+use crate::faults::book::{adding, releasing};
+use crate::faults::{change, change_book, cut, cut_edition, reading, units};
 use hailgully_raw::*;
+use hailgully_tests::book::{Kind, Request, Reservation};
 use hailgully_tests::plane::{PlaneCell, LATITUDE, LONGITUDE};
 use hailgully_tests::refusals::Refusal;
 use hailgully_tests::space::SpaceCell;
@@ -73,6 +75,54 @@ pub fn plane_box(code: &mut [u8]) -> HgBox {
     got
 }
 
+type Add = unsafe extern "C" fn(*const u8, usize, u32, u32, u32, *mut HgReservation, usize) -> HgBooked;
+
+/// Adds by the code that is lent, which is the request's.
+pub fn book_add(request: &Request, code: &mut [u8], book: &mut [HgReservation]) -> HgBooked {
+    let (add, names): (Add, [&str; 4]) = match request.kind {
+        Kind::Plane => (
+            hg_book_add_plane,
+            ["hg_book_add_plane code_length", "hg_book_add_plane length", "hg_book_add_plane code", "hg_book_add_plane book"],
+        ),
+        Kind::Space => (
+            hg_book_add_space,
+            ["hg_book_add_space code_length", "hg_book_add_space length", "hg_book_add_space code", "hg_book_add_space book"],
+        ),
+    };
+    let (code_length, length) = (cut(names[0], code.len()), cut(names[1], book.len()));
+    let from = code.as_mut_ptr();
+    let got = adding(request, book, length, |flight, end, book, length| unsafe {
+        add(from, code_length, flight, request.start, end, book, length)
+    });
+    change(names[2], code);
+    change_book(names[3], book);
+    got
+}
+
+pub fn book_release(flight: u32, book: &mut [HgReservation]) -> HgBooked {
+    let length = cut("hg_book_release length", book.len());
+    let got = releasing(flight, book, length, |flight, book, length| unsafe { hg_book_release(flight, book, length) });
+    change_book("hg_book_release book", book);
+    got
+}
+
+/// A record of the oracle as the library holds it.
+pub fn record(own: &Reservation) -> HgReservation {
+    HgReservation {
+        live: own.live,
+        flight: own.flight,
+        level: own.cell.plane.level,
+        west: own.cell.plane.west,
+        south: own.cell.plane.south,
+        width: own.cell.plane.width,
+        height: own.cell.plane.height,
+        floor: own.cell.floor,
+        thickness: own.cell.thickness,
+        start: own.start,
+        end: own.end,
+    }
+}
+
 /// A record that the library should return, made of the oracle's answer.
 pub trait Record<T> {
     fn of(own: Result<T, Refusal>) -> Self;
@@ -95,6 +145,7 @@ macro_rules! answers {
 }
 
 answers!(HgWritten, usize, |length| HgWritten { length: length as u64, ..HgWritten::default() });
+answers!(HgBooked, usize, |at| HgBooked { at: at as u64, ..HgBooked::default() });
 answers!(HgUnits, (i32, i32), |units| HgUnits { longitude: units.0, latitude: units.1, ..HgUnits::default() });
 answers!(HgPlaneCell, PlaneCell, |cell| HgPlaneCell {
     level: cell.level,

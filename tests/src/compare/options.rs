@@ -5,7 +5,7 @@ use crate::faults;
 pub const HELP: &str = "compare: holds the library against the oracle
 
   --seed N      the seed of the random cases (1)
-  --cases N     the least number of cases in all (12,000,000); fixed families are always done whole, and at least half as many random cases are added
+  --cases N     the least number of cases in all (14,000,000); fixed families are always done whole, and at least half as many random cases are added
   --seeds N     for a night: this seed and the N - 1 after it, a line each; the fixed families with the first, so many random cases with each other
   --threads N   (2)
   --no-huge     lend no memory of 2^31 bytes and more, and leave out the faults that only it shows: for an emulator, which keeps tables of every page
@@ -28,7 +28,7 @@ pub struct Options {
 
 impl Options {
     pub fn given() -> Result<Options, String> {
-        let mut options = Options { seed: 1, seeds: 1, cases: 12_000_000, threads: 2, slips: false, huge: true, help: false, slip: 0 };
+        let mut options = Options { seed: 1, seeds: 1, cases: 14_000_000, threads: 2, slips: false, huge: true, help: false, slip: 0 };
         let mut words = std::env::args().skip(1);
         while let Some(word) = words.next() {
             let mut number = || number(&word, &words.next().ok_or(format!("{word} lacks a number"))?);

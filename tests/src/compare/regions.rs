@@ -109,8 +109,10 @@ pub fn wanted(call: Call) -> Vec<(usize, String)> {
     let all = (0..SLOTS).filter(|&slot| {
         let (region, level) = (slot / 10 % HALF, slot % 10 + 1);
         match call {
-            Call::Arcseconds => false,
-            _ if slot >= SIGNS => matches!(call, Call::SpaceWrite1 | Call::SpaceRead1 | Call::SpaceWrite2 | Call::SpaceRead2),
+            Call::Arcseconds | Call::BookRelease => false,
+            _ if slot >= SIGNS => {
+                matches!(call, Call::SpaceWrite1 | Call::SpaceRead1 | Call::SpaceWrite2 | Call::SpaceRead2 | Call::BookAddSpace)
+            }
             Call::ReferenceWrite | Call::ReferenceRead => region <= WEST && level >= 5,
             _ => levels(region).contains(&level),
         }

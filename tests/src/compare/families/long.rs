@@ -1,17 +1,20 @@
-//! Lengths, places and editions that would be taken for others if they were cut to fewer bits, or took a sign: for every call, around 2^7 to 2^32.
+//! Lengths, places and editions that would be taken for others if they were cut to fewer bits, or took a sign: for every call, around 2^7 to 2^32;
+//! lengths of books too.
 
 use super::{fixed, Family};
 use crate::checks::Run;
+use hailgully_tests::book::{Kind, Request, Reservation};
 use hailgully_tests::cases;
 use hailgully_tests::plane::{write, LENGTHS};
 use hailgully_tests::space::{self, Edition};
 
 /// Memory of 2^31 bytes and more is lent only where it may be: untouched pages cost a machine nothing, and an emulator gigabytes.
 pub fn families(huge: bool) -> Vec<Family> {
-    let mut families = vec![
-        fixed("long: editions", 16, editions),
-        fixed("long: lines and codes", 16 * SMALL.len() as u64, |run, piece| lines_and_codes(run, around(&SMALL, piece))),
-    ];
+    let mut families = vec![fixed("long: editions", 16, editions), fixed("long: books", SMALL.len() as u64, books)];
+    if huge {
+        families.push(fixed("long: huge books", HUGE.len() as u64, huge_books));
+    }
+    families.push(fixed("long: lines and codes", 16 * SMALL.len() as u64, |run, piece| lines_and_codes(run, around(&SMALL, piece))));
     if huge {
         families.push(fixed("long: huge lines and codes", HUGE.len() as u64, |run, piece| lines_and_codes(run, around(&HUGE, piece))));
     }
@@ -35,6 +38,22 @@ fn around(bits: &[u32], piece: u64) -> Around {
 fn lines_and_codes(run: &mut Run, around: Around) {
     lines(run, around);
     codes(run, around);
+}
+
+/// Books of a little more than the number of records, which would be good ones if it were cut off.
+fn books(run: &mut Run, piece: u64) {
+    let (near, square) = around(&SMALL, piece);
+    let book: Vec<Reservation> = (0..near + 3).map(|at| cases::nothing(&mut run.random, at as u32 % 2, 1)).collect();
+    for kind in Kind::BOTH {
+        let (_, code) = cases::coded(kind, 10, square, -7);
+        run.book_add_once(&Request { kind, code: &code, flight: 2, start: 3, end: 4 }, &book);
+    }
+    run.book_release_once(1, &book);
+}
+
+fn huge_books(run: &mut Run, piece: u64) {
+    let (near, (longitude, latitude)) = around(&HUGE, piece);
+    run.huge_book(&write::finest(longitude, latitude), near + 3);
 }
 
 /// Lines with just enough room, or one byte less, at places around the number; lines of a little more than the number; places near 2^64.
@@ -93,15 +112,18 @@ fn codes(run: &mut Run, (near, square): Around) {
     let times = if near <= 1 << 16 { 3 } else { 1 };
     let (flat, tall) = (write::finest(square.0, square.1), space::finest(Edition::Ours, square, -7));
     let base = write::finest(5, 5);
+    let free = [cases::noise(&mut run.random, 0)];
     for by in (1..=times).map(|times| times * near) {
         let fill = b"0-"[by / near % 2];
         for (&length, tall_length) in LENGTHS.iter().zip(space::LENGTHS) {
             let long = longer(&flat[..length], by, fill);
             run.plane_read(&long);
             run.plane_box(&long);
+            run.book_add_once(&Request { kind: Kind::Plane, code: &long, flight: 2, start: 3, end: 4 }, &free);
             let long = longer(&tall[..tall_length], by, fill);
             run.space_read(1, &long);
             run.space_read(2, &long);
+            run.book_add_once(&Request { kind: Kind::Space, code: &long, flight: 2, start: 3, end: 4 }, &free);
             run.reference_read(&longer(&[&base[..length], b"-1A"].concat(), by, fill), 24, 0);
             let long = longer(&base[..length], by, fill);
             run.reference_write(&long, &base[..11], 24, 0);

@@ -1,9 +1,11 @@
-//! Before the quick oracle is trusted: it against the lists, and edition 2 against the layer's binary digits written out.
+//! Before the quick oracle is trusted: it against the lists, edition 2 against the layer's binary digits written out, and conflicts against what
+//! each record holds.
 
 use super::{Family, Kind};
 use crate::checks::{show, Run};
 use hailgully_tests::arcseconds::arcseconds;
-use hailgully_tests::cases;
+use hailgully_tests::book::{self, plain};
+use hailgully_tests::cases::{self, About, MINUTES};
 use hailgully_tests::layers::height_cell;
 use hailgully_tests::plane::{self, listing, LENGTHS, POLAR_INDEX};
 use hailgully_tests::reference::{self, OFFSETS};
@@ -17,6 +19,8 @@ pub fn families() -> Vec<Family> {
         own("own check: space codes against the lists", 20_000, |run| spaces(run, Edition::Ours)),
         own("own check: space codes of edition 2 against binary digits", 20_000, |run| spaces(run, Edition::Theirs)),
         own("own check: reference codes against steps", 40_000, steps),
+        own("own check: conflicts against what records hold", 40_000, conflicts),
+        own("own check: longitudes of a small globe, listed", 40_000, small_globe),
     ]
 }
 
@@ -145,4 +149,32 @@ fn steps(run: &mut Run) {
     let written = reference::write(&base, &target, &mut line, 0);
     let well = written == Ok(code.len()) && line[..code.len()] == code;
     own(run, well, || format!("{}: {written:?}", show(&code)));
+}
+
+/// Records about one cell, each with the cell and with the next.
+fn conflicts(run: &mut Run) {
+    let (kind, code) = cases::codes_about(&mut run.random, 1).remove(0);
+    let minutes = run.random.pick(&MINUTES);
+    let Ok(cell) = kind.cell(&code) else { return own(run, false, || format!("{} is refused", show(&code))) };
+    let about = About::new(cell, minutes);
+    let mut last = about.same();
+    for _ in 0..8 {
+        let next = about.some(&mut run.random, 9);
+        for other in [last, about.same()] {
+            let (quick, plain) = (next.conflicts(&other), plain::conflicts(&next, &other));
+            own(run, quick == plain && quick == other.conflicts(&next), || format!("{next:?} and {other:?}: {quick}, plainly {plain}"));
+        }
+        last = next;
+    }
+}
+
+/// Two arcs of a globe of few longitudes share one exactly when the lists of their longitudes do.
+fn small_globe(run: &mut Run) {
+    let turn = run.random.between(1, 20);
+    let mut arc = || (run.random.between(-3 * turn, 3 * turn), run.random.between(0, 3 * turn));
+    let (one, other) = (arc(), arc());
+    let [quick, again] = [one, other].map(|(west, width)| book::pieces(west, width, turn));
+    let [listed, with] = [one, other].map(|(west, width)| plain::listed(west, width, turn));
+    let (quick, plain) = (book::pieces_meet(&quick, &again), !listed.is_disjoint(&with));
+    own(run, quick == plain, || format!("arcs {one:?} and {other:?} of {turn}: {quick}, listed {plain}"));
 }
