@@ -81,6 +81,7 @@ static void plane_1(input *i) { place(i, 1, 0), plane_code(i); }
 static void polar_10(input *i) { place(i, 10, 1), plane_code(i); }
 static void space_10(input *i) { place(i, 10, 0), space_code(i); }
 static void space_5(input *i) { place(i, 5, 0), space_code(i); }
+static void space_1(input *i) { place(i, 1, 0), space_code(i); }
 static void polar_space_10(input *i) { place(i, 10, 1), space_code(i); }
 static void space_2_10(input *i) { place(i, 10, 0), space_code_2(i); }
 static void space_2_5(input *i) { place(i, 5, 0), space_code_2(i); }
@@ -201,8 +202,10 @@ static const struct {
     {"plane box, level 10", plane_10, plane_box, MANY},
     {"space write, level 10", space_10, space_write, MANY},
     {"space write, level 5", space_5, space_write, MANY},
+    {"space write, level 1", space_1, space_write, MANY},
     {"space read, level 10", space_10, space_read, MANY},
     {"space read, level 5", space_5, space_read, MANY},
+    {"space read, level 1", space_1, space_read, MANY},
     {"polar space write, level 10", polar_space_10, space_write, MANY},
     {"polar space read, level 10", polar_space_10, space_read, MANY},
     {"space write, edition 2, level 10", space_2_10, space_write, MANY},

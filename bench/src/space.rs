@@ -80,14 +80,16 @@ fn same(dice: &mut Dice, at: &[Position], codes: &[Code]) {
 
 pub fn rows(dice: &mut Dice) -> Vec<Row> {
     let mut rows = Vec::new();
-    for level in [10, 5] {
+    for level in [10, 5, 1] {
         let at = many(|| Position::ordinary(dice, level));
         let codes = each(at, Code::space);
         same(dice, at, codes);
-        let bar = if level == 10 { Some(1.5) } else { None };
+        let bar = if level == 10 { Some(1.15) } else { None };
         rows.push(Row::plain(format!("space write, level {level}"), write_ours(at), write_plain(at), bar));
         rows.push(Row::plain(format!("space read, level {level}"), read_ours(1, codes), read_plain(1, codes), bar));
-        rows.extend(edition_2(dice, level, at, codes));
+        if level > 1 {
+            rows.extend(edition_2(dice, level, at, codes));
+        }
     }
     rows
 }

@@ -69,10 +69,17 @@ pub fn level_of(length: usize) -> Option<u32> {
 pub fn finest(edition: Edition, (longitude, latitude): (i64, i64), layer: i64) -> [u8; 32] {
     let (flat, high) = (plane::write::finest(longitude, latitude), edition.heights(layer));
     let (mut flat, mut high) = (flat.into_iter(), high.into_iter());
-    TURNS.map(|turn| match turn {
+    let mut code = TURNS.map(|turn| match turn {
         b'p' => flat.next().expect("20 plane characters"),
         _ => high.next().expect("12 height characters"),
-    })
+    });
+    match slips::current() {
+        slips::SIGN_FIRST => code.swap(0, 1),
+        slips::HEIGHT_ONE_PLACE_OFF => code.swap(18, 19),
+        slips::TENS_OVERWRITTEN => code[5] = code[6],
+        _ => {}
+    }
+    code
 }
 
 /// Position writer: refusals 1, 13, 2, 3, 4, 5.
@@ -151,6 +158,8 @@ fn whole(edition: Edition, code: &[u8]) -> Result<SpaceWalk, usize> {
         let turn = *TURNS.get(place).ok_or(place)?;
         let next = walk.take(turn, character);
         let early = slips::on(slips::HEIGHT_64_AT_FIRST_DIGIT) && place == 6 && next.is_none();
+        let among = slips::on(slips::PLACE_AMONG_HEIGHTS) && turn != b'p';
+        let place = if among { TURNS[..place].iter().filter(|turn| **turn != b'p').count() } else { place };
         walk = next.ok_or(if early { 5 } else { place })?;
     }
     Ok(walk)

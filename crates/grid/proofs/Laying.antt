@@ -127,3 +127,7 @@ laid-past-by line at n q e l h = rw q (laid-past line at n e l h)
 pub laid-short-by : {t : Answer (List ℕ)} {w : List ℕ} {r : Refusal} (line : List ℕ) (at n : ℕ) → r ≡ noRoom → t ≡ accepted w → length w ≡ n → at ≤ length line → length line - at < n
     → (written (written-as.Refused r), line) ≡ laid t line at
 laid-short-by line at n q e l h k = rw q (laid-short line at n e l h k)
+
+-- the same, where what is left of the line from the place on is counted: none past its end
+pub laid-narrow-by : {t : Answer (List ℕ)} {w : List ℕ} {r : Refusal} (line : List ℕ) (at n : ℕ) → r ≡ noRoom → t ≡ accepted w → length w ≡ n → length line - at < n → (written (written-as.Refused r), line) ≡ laid t line at
+laid-narrow-by line at n q e l h = rw q (laid-no-room line at n e l (omega arith))

@@ -1,6 +1,6 @@
 -- How long plane codes are: the table's lengths add up, and the code of a level has the length of its line.
 -- Assumes nothing.
-use mathlib.Core.Path.{_≡_, refl, _∙_}
+use mathlib.Core.Path.{_≡_, refl, _∙_, ap}
 use mathlib.Core.Bool.{Bool, true, _&&_}
 use mathlib.Core.List.{List, [], _∷_}
 use mathlib.Core.Option.{none}
@@ -9,6 +9,7 @@ use native.Mathlib.Omega.{arith}
 use lib.Dec.{ltb, leb, eqb}
 use lib.ListN.{length, take, length-map}
 use borrow.Author.Tests.{ltb-true, leb-true, eqb-true, ne-eqb}
+use Rattle.grid.specs.declared.Split.{Split}
 use Rattle.grid.specs.Units.{Square, OnGlobe}
 use Rattle.grid.specs.Characters.{charOf}
 use Rattle.grid.specs.Tree.{code}
@@ -33,6 +34,17 @@ grows i j a b =
     (below (λ i. leb (splitAt i .length) (splitAt j .length)) (suc j) i
     (below (λ j. allBelow (λ i. leb (splitAt i .length) (splitAt j .length)) (suc j)) 10 j refl b)
     (omega arith))
+
+-- the length in the line of a level
+pub length-at : (k level : ℕ) {s : Split} → s ≡ splitAt k → level ≡ k + 1 → s .length ≡ splitAt (level - 1) .length
+length-at k level e h = ap (λ (s : Split). s .length) e ∙ ap (λ (i : ℕ). splitAt i .length) (let z : k ≡ level - 1 = omega arith in z)
+
+-- past a number that it is not
+pub past : (k x : ℕ) → k ≤ x → (x ≡ k → ⊥) → k + 1 ≤ x
+past k x h n = omega arith
+
+pub just : (k x : ℕ) → k ≤ x → x ≤ k → x ≡ k
+just k x h l = omega arith
 
 -- the digits of the levels up to l
 pub total-length : (l : ℕ) → 1 ≤ l → l ≤ 10 → total plane (take l splits) ≡ splitAt (l - 1) .length

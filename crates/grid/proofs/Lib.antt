@@ -9,6 +9,7 @@ pub mod Poles
 pub mod Halting
 pub mod PlaneLaws
 pub mod Lengths
+pub mod Standing
 pub mod Arriving
 pub mod Levels
 pub mod Covering

@@ -1,16 +1,13 @@
 -- Lists of numbers: a part of a mapped list, and stores one after another.
 -- They are missing from the libraries; the crates that read and write codes cite them. Assumes nothing.
 use mathlib.Core.Path.{_≡_, refl, ap}
-use mathlib.Core.Bool.{Bool, true, false, cond}
 use mathlib.Core.List.{List, [], _∷_, _++_, map}
-use Prim.Native.Nat.{ℕ, zero, suc, _+_, _≤_, _<_, min}
-use native.Mathlib.Nat.{zero-add, add-zero, add-suc, suc-add}
+use Prim.Native.Nat.{ℕ, zero, suc, _+_, _≤_, _<_}
+use native.Mathlib.Nat.{add-zero, add-suc, suc-add}
 use native.Mathlib.Numerals.{add-one}
 use native.Mathlib.Omega.{arith}
-use lib.Dec.{ltb}
 use lib.ListN.{length, getD, take, drop, set}
 use lib.Seq.{sets, drop-cons}
-use borrow.Author.Tests.{ltb-true, ltb-false}
 
 pub take-map : (f : ℕ → ℕ) (n : ℕ) (l : List ℕ) → take n (map f l) ≡ map f (take n l)
 take-map f zero l = refl
@@ -22,6 +19,11 @@ drop-map f zero l = refl
 drop-map f (suc n) [] = refl
 drop-map f (suc n) (x ∷ l) = drop-map f n l
 
+pub getD-map-at : (f : ℕ → ℕ) (l : List ℕ) (i : ℕ) → i < length l → getD (map f l) i 0 ≡ f (getD l i 0)
+getD-map-at f [] i h = absurd (omega arith)
+getD-map-at f (x ∷ l) zero h = refl
+getD-map-at f (x ∷ l) (suc i) h = getD-map-at f l i (omega arith)
+
 pub sets-append : (l : List ℕ) (i : ℕ) (xs ys : List ℕ) → sets l i (xs ++ ys) ≡ sets (sets l i xs) (i + length xs) ys
 sets-append l i [] ys = rw add-zero
 sets-append l i (x ∷ xs) ys = rw (add-suc, ← suc-add) (sets-append (set l i x) (suc i) xs ys)
@@ -32,19 +34,3 @@ map-one f w at h = rw (drop-cons w at 0 (omega arith)) refl
 
 pub map-two : (f : ℕ → ℕ) (w : List ℕ) (at : ℕ) → at + 2 ≤ length w → map f (take 2 (drop at w)) ≡ f (getD w at 0) ∷ f (getD w (at + 1) 0) ∷ []
 map-two f w at h = rw (drop-cons w at 0 (omega arith), drop-cons w (suc at) 0 (omega arith), add-one at) refl
-
--- a text that grows from level to level, laid down as far as level k of those up to `level`: level k + 1 lays down what it adds
-pub sets-next : (text : ℕ → List ℕ) (level k at : ℕ) (l w : List ℕ) {i j : ℕ} → i ≡ min level k → j ≡ min level (suc k) → (k < level → text (suc k) ≡ text k ++ w) → length (text k) ≡ at
-    → sets (sets l 0 (text i)) at (cond (ltb k level) w []) ≡ sets l 0 (text j)
-sets-next text level k at l w {i} {j} ei ej more from = go (ltb k level) refl
-  where
-    go : (q : Bool) → ltb k level ≡ q → sets (sets l 0 (text i)) at (cond q w []) ≡ sets l 0 (text j)
-    go true e =
-        let h : k < level = ltb-true k level e in
-        let u : i ≡ k = omega arith in
-        let v : j ≡ suc k = omega arith in
-        rw (u, v, more h, sets-append, zero-add, from) refl
-    go false e =
-        let h : level ≤ k = ltb-false k level e in
-        let u : i ≡ j = omega arith in
-        ap (λ (n : ℕ). sets l 0 (text n)) u

@@ -2,7 +2,7 @@
 // What the rules mean stands in specs/, and the theorems over them in proofs/Theorems.antt.
 
 ghost use mathlib.Core.Path.{_≡_};
-ghost use Prim.Native.Nat.{_+_, _≤_, _<_};
+ghost use Prim.Native.Nat.{_-_, _+_, _≤_, _<_};
 ghost use lib.Seq.{sets};
 ghost use Rattle.grid.specs.Units.{side, index, unit};
 ghost use Rattle.grid.specs.Plane.{letter, least};
@@ -10,6 +10,7 @@ ghost use Rattle.grid.specs.Splits.{splitAt, polarCellAt};
 ghost use Rattle.grid.specs.Characters.{charOf, digitOf};
 ghost use Rattle.grid.specs.Answers.{refusal, wrongCharacter, about};
 ghost use Rattle.grid.specs.inner.Roads.{DigitBelow, atPlace, singleOf, levelChars, LevelFits};
+ghost use Rattle.grid.specs.inner.Standing.{zonePlace, levelPlace, planePlace, heightPlace};
 
 // One minute and one degree, in units of 1/2048 arc-second.
 pub const MINUTE: u32 = 60 * 2048;
@@ -127,6 +128,13 @@ pub fn at_place(place: usize, r: Refusal) -> Refusal
         place: place,
         ordinal: r.ordinal,
     }
+}
+
+// How many bytes a line of a length has from a place on: none where the place is past the end.
+pub fn room_from(length: usize, at: usize) -> usize
+    ensures { λ r. ⌜ r ≡ length - at ⌝ }
+{
+    if length < at { 0 } else { length - at }
 }
 
 // A position on the globe, by the side and the outward index of its longitude and of its latitude.
@@ -315,12 +323,56 @@ pub fn split_of(k: usize) -> Split
     SPLITS[k]
 }
 
-// The polar cell with the digits a and b, k being 4a + b.
-pub fn polar_cell(k: usize) -> PolarCell
+// The length of the codes of a level.
+pub fn length_of(level: u32) -> usize
+    requires { ⌜ (1 ≤ level) × (level ≤ 10) ⌝ }
+    ensures { λ r. ⌜ r ≡ splitAt (level - 1) .length ⌝ }
+{
+    match level {
+        1 => split_of(0).length,
+        2 => split_of(1).length,
+        3 => split_of(2).length,
+        4 => split_of(3).length,
+        5 => split_of(4).length,
+        6 => split_of(5).length,
+        7 => split_of(6).length,
+        8 => split_of(7).length,
+        9 => split_of(8).length,
+        _ => split_of(9).length,
+    }
+}
+
+// Line k of the table of polar cells. Called with a literal it folds away.
+fn polar_line(k: usize) -> PolarCell
     requires { ⌜ k < 16 ⌝ }
     ensures { λ r. ⌜ r ≡ polarCellAt k ⌝ }
 {
     POLAR_CELLS[k]
+}
+
+// The polar cell with the digits a and b, k being 4a + b. By a match, as `length_of`: a table that is indexed by a variable is built on the stack.
+pub fn polar_cell(k: usize) -> PolarCell
+    requires { ⌜ k < 16 ⌝ }
+    ensures { λ r. ⌜ r ≡ polarCellAt k ⌝ }
+{
+    match k {
+        0 => polar_line(0),
+        1 => polar_line(1),
+        2 => polar_line(2),
+        3 => polar_line(3),
+        4 => polar_line(4),
+        5 => polar_line(5),
+        6 => polar_line(6),
+        7 => polar_line(7),
+        8 => polar_line(8),
+        9 => polar_line(9),
+        10 => polar_line(10),
+        11 => polar_line(11),
+        12 => polar_line(12),
+        13 => polar_line(13),
+        14 => polar_line(14),
+        _ => polar_line(15),
+    }
 }
 
 // A digit's character.
@@ -422,6 +474,64 @@ pub fn put_digits(level: u32, k: u32, s: Split, d: Digits, line: &mut [u8], at: 
     } else {
         line[at] = character(single(d));
     }
+}
+
+// ---- where characters stand
+
+// Where the characters after N or S begin: in a space code behind the sign.
+pub fn zone_place(spaced: bool) -> usize
+    ensures { λ r. ⌜ r ≡ zonePlace spaced ⌝ }
+{
+    if spaced { 2 } else { 1 }
+}
+
+// Where the characters of level k + 1, a later one whose split is s, begin: in a plane code behind those of the levels before it; in a space code the
+// height characters of those levels stand between, two more than there are levels.
+pub fn level_place(spaced: bool, k: u32, s: Split) -> usize
+    requires { ⌜ (k < 10) × (s .characters ≤ s .length) × (s .length ≤ 20) ⌝ }
+    ensures { λ r. ⌜ r ≡ levelPlace spaced k s ⌝ }
+{
+    let place = s.length - s.characters;
+    if spaced {
+        place + 2 + k as usize
+    } else {
+        place
+    }
+}
+
+// Where the height character p stands in a space code: the sign second, every other one behind the plane characters of its level.
+pub fn height_place(p: usize) -> usize
+    requires { ⌜ p < 12 ⌝ }
+    ensures { λ r. ⌜ r ≡ heightPlace p ⌝ }
+{
+    if p == 0 {
+        return 1;
+    }
+    if p == 1 {
+        return length_of(1) + 1;
+    }
+    length_of(p as u32 - 1) + p
+}
+
+// Where the plane character p stands in a space code: behind the sign, and behind the height characters of the levels before its own; 0 for one that
+// there is not.
+pub fn plane_place(p: usize) -> usize
+    ensures { λ r. ⌜ r ≡ planePlace p ⌝ }
+{
+    if 20 <= p {
+        return 0;
+    }
+    if p < length_of(1) {
+        if p == 0 {
+            return 0;
+        }
+        return p + 1;
+    }
+    let mut k: u32 = 1;
+    while length_of(k + 1) <= p {
+        k += 1;
+    }
+    p + 2 + k as usize
 }
 
 // ---- signed numbers, by their side of 0 and their outward index

@@ -2,14 +2,14 @@
 -- Assumes nothing.
 use mathlib.Core.Path.{_≡_, refl, _∙_, ap}
 use mathlib.Core.Bool.{Bool, true}
-use mathlib.Core.List.{List, [], _∷_, _++_, map}
+use mathlib.Core.List.{List, [], _∷_, map}
 use Prim.Native.Nat.{ℕ, zero, suc, _+_, _*_, _/_, _%_, _≤_, _<_}
 use native.Mathlib.Omega.{arith}
 use native.Mathlib.Nat.{div-lt-iff-lt-mul, mod-lt, mul-div-right}
 use native.Mathlib.Numerals.{add-one}
 use lib.IntN.{ℤ}
 use lib.ListN.{length, getD, take, drop, length-take}
-use lib.Seq.{take-suc}
+use lib.Seq.{getD-take}
 use borrow.Author.Tests.{lt-ltb}
 use Rattle.grid.specs.Units.{side, index}
 use Rattle.grid.specs.Tree.{code}
@@ -85,15 +85,14 @@ height-length (r ∷ rs) (suc l) z e h a b =
     ap length (height-straight r rs l z e h)
     ∙ omega (arith, length-take l (direct rs X), length-direct rs X, ten (r ∷ rs) e)
 
--- level k + 1 adds its digit
-pub height-more : (rs : List ℕ) (k : ℕ) (z : ℤ) → Fair rs → index z < product rs → 1 ≤ k → k < 10
-    → heightDigits rs (suc k) z ≡ heightDigits rs k z ++ ((rise (product rs) z / thicknessAt rs (k + 1) % getD rs k 0) ∷ [])
+-- the digit of level k + 1, a later one
+pub height-at : (rs : List ℕ) (l k : ℕ) (z : ℤ) → Fair rs → index z < product rs → 1 ≤ k → k < l → l ≤ 10
+    → getD (heightDigits rs l z) (k + 2) 0 ≡ rise (product rs) z / thicknessAt rs (k + 1) % getD rs k 0
 unfolding thicknessAt
-height-more rs zero z e h a b = absurd (omega arith)
-height-more [] (suc k) z e h a b = clash (let t = e .test in cc)
-height-more (r ∷ rs) (suc k) z e h a b =
+height-at rs l zero z e h a b c = absurd (omega arith)
+height-at rs zero (suc k) z e h a b c = absurd (omega arith)
+height-at [] (suc l) (suc k) z e h a b c = clash (let t = e .test in cc)
+height-at (r ∷ rs) (suc l) (suc k) z e h a b c =
     let X = rise (product (r ∷ rs)) z in
-    let l : k < length rs = omega (arith, ten (r ∷ rs) e) in
-    let t : take (suc k) (direct rs X) ≡ take k (direct rs X) ++ ((X / product (drop (suc k) rs) % getD rs k 0) ∷ []) =
-    take-suc (direct rs X) k 0 (omega (arith, length-direct rs X)) ∙ ap (λ (x : ℕ). take k (direct rs X) ++ (x ∷ [])) (at-direct rs X k l) in
-    rw (height-straight r rs (suc k) z e h, height-straight r rs k z e h, t, add-one (suc k)) refl
+    let p : suc k + 2 ≡ suc (suc (suc k)) = omega arith in
+    rw (height-straight r rs l z e h, p, add-one (suc k)) (getD-take l (direct rs X) k 0 (omega arith) ∙ at-direct rs X k (omega (arith, ten (r ∷ rs) e)))

@@ -1,3 +1,4 @@
+pub mod Places
 pub mod Radices
 pub mod Sides
 pub mod Digits

@@ -13,20 +13,17 @@ use lib.Seq.{drop-cons, getD-take, length-take-le}
 use borrow.Author.Tests.{lt-ltb, le-ltb, le-leb, lt-leb}
 use Rattle.grid.specs.Characters.{digitOf}
 use Rattle.grid.specs.inner.Roads.{DigitBelow}
+use Rattle.grid.specs.inner.Standing.{heightPlace, countFrom}
 use Rattle.grid.specs.Tree.{Read, ok, bad, guard, shift, next, follow}
 use Rattle.grid.specs.Layers.{product, Stack, part, allChild}
 use Rattle.grid.proofs.Cut.{clash, cut-end}
 use Rattle.grid.proofs.Laws.{shift-shift}
 use Rattle.grid.proofs.Characters.{told}
+use Rattle.grid.proofs.Standing.{given-at, given-length}
 use Rattle.layers.specs.declared.Height.{Height}
 use Rattle.layers.specs.Heights.{laterHeight, heightLevels, heightRead}
 use Rattle.layers.specs.inner.Steps.{heightOf, Fair, thicknessAt, standing, Readable, BadAt, HeightFirst, heightRest, Upto}
 use Rattle.layers.proofs.Radices.{ten, product-fits, first-radix, later-radix, thick-top, thick-step}
-
-pub getD-map-at : (f : ℕ → ℕ) (l : List ℕ) (i : ℕ) → i < length l → getD (map f l) i 0 ≡ f (getD l i 0)
-getD-map-at f [] i h = absurd (omega arith)
-getD-map-at f (x ∷ l) zero h = refl
-getD-map-at f (x ∷ l) (suc i) h = getD-map-at f l i (omega arith)
 
 -- a level, and as many height characters as a code of it has
 pub record Sized (level : ℕ) (w : List ℕ) : Type 0 where
@@ -34,22 +31,19 @@ pub record Sized (level : ℕ) (w : List ℕ) : Type 0 where
   pub ten-levels : level ≤ 10
   pub exactly : length w ≡ 2 + level
 
-module _ {level : ℕ} {places code : List ℕ} (d : Readable level places code) where
-  abbrev all-places : List ℕ
-  all-places = map (λ p. getD code p 0) places
-
-  places-twelve : length all-places ≡ 12
-  places-twelve = length-map places (λ p. getD code p 0) ∙ d .twelve
+module _ {level : ℕ} {code : List ℕ} (d : Readable level code) where
+  abbrev at : ℕ → ℕ
+  at p = getD code (heightPlace p) 0
 
   -- those that stand in a code are as many
-  pub sized : Sized level (standing level places code)
-  sized = record { some-level = d .some-level; ten-levels = d .ten-levels; exactly = length-take-le (2 + level) all-places (omega (arith, places-twelve, d .ten-levels)) }
+  pub sized : Sized level (standing level code)
+  sized = record { some-level = d .some-level; ten-levels = d .ten-levels; exactly = length-take-le (2 + level) (map at (countFrom 0 12)) (omega (arith, given-length at 12, d .ten-levels)) }
 
-  -- a digit read at one of those places
-  pub digit-at : {q v : ℕ} (i : ℕ) → i < 2 + level → DigitBelow q (getD code (getD places i 0) 0) v → DigitBelow q (getD (standing level places code) i 0) v
-  digit-at {q} {v} i h =
+  -- a digit read at its place
+  pub digit-at : {p q v : ℕ} (i : ℕ) → i < 2 + level → p ≡ heightPlace i → DigitBelow q (getD code p 0) v → DigitBelow q (getD (standing level code) i 0) v
+  digit-at {q = q} {v} i h e =
       subst (λ (x : ℕ). DigitBelow q x v)
-      (sym (getD-take (2 + level) all-places i 0 h ∙ getD-map-at (λ p. getD code p 0) places i (omega (arith, d .twelve, d .ten-levels))))
+      (ap (λ (p : ℕ). getD code p 0) e ∙ sym (getD-take (2 + level) (map at (countFrom 0 12)) i 0 h ∙ given-at at 12 i (omega (arith, d .ten-levels))))
 
 bad-read : {p : ℕ} {h : Height} → BadAt p h → heightOf h ≡ bad p
 bad-read b = rw (b .none, b .place) refl

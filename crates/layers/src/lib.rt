@@ -2,16 +2,17 @@
 // All is written over an edition's list of radices. Only the two lists tell the editions apart.
 
 ghost use mathlib.Core.Path.{_≡_};
+ghost use mathlib.Core.Bool.{true};
 ghost use mathlib.Core.List.{map};
 ghost use Prim.Native.Nat.{ℕ, _+_, _/_, _%_, _≤_, _<_};
 ghost use lib.IntN.{negsuc};
 ghost use lib.ListN.{length, getD};
-ghost use lib.Seq.{sets};
 ghost use Rattle.grid.specs.Characters.{charOf, digitOf};
+ghost use Rattle.grid.specs.inner.Standing.{lengthIn, heightPlace, spreadBack};
 ghost use Rattle.grid.specs.Layers.{editionIn, product, rise, sign, part, floorOf};
 ghost use Rattle.layers.specs.Heights.{askedOf, layerAsked, stackAnswer, heightAnswer, layersAnswer};
 ghost use Rattle.layers.specs.inner.Editions.{radicesOf, editionAsked};
-ghost use Rattle.layers.specs.inner.Steps.{Fair, thicknessAt, layerOf, heightDigits, cellsBelow, firstHeight, laterHeightAt, HeightWritable, heightOf, standing, Readable, BadAt, HeightFirst, Upto};
+ghost use Rattle.layers.specs.inner.Steps.{Fair, thicknessAt, layerOf, heightDigits, firstHeight, laterHeightAt, HeightWritable, heightOf, standing, Readable, BadAt, HeightFirst, Upto};
 use grid::Refusal;
 
 // The radices of edition 1, document 01's, and of edition 2, cut by bits (document 02, Wish 1); from the coarsest.
@@ -125,75 +126,72 @@ fn sign_of(above: bool) -> u8
     if above { b'0' } else { b'1' }
 }
 
-// A number divided by the radix of level k + 1. Either edition divides by a constant: a division by the one radix or the other would be slow.
+// A number divided by the radix of level k + 1. Either edition divides by a constant, and both quotients are made before one is chosen: with each in a
+// branch of its own the compiler joins them into one division by a variable, which is slow.
 fn whole(second: bool, k: usize, v: u32) -> u32
     requires { ⌜ k < 10 ⌝ }
     ensures { λ r. ⌜ r ≡ v / getD (radicesOf second) k 0 ⌝ }
 {
-    if second { v / THEIRS[k] } else { v / OURS[k] }
+    let theirs = v / THEIRS[k];
+    let ours = v / OURS[k];
+    if second { theirs } else { ours }
 }
 
-// What is left over.
+// What is left over, likewise.
 fn left(second: bool, k: usize, v: u32) -> u32
     requires { ⌜ k < 10 ⌝ }
     ensures { λ r. ⌜ r ≡ v % getD (radicesOf second) k 0 ⌝ }
 {
-    if second { v % THEIRS[k] } else { v % OURS[k] }
+    let theirs = v % THEIRS[k];
+    let ours = v % OURS[k];
+    if second { theirs } else { ours }
 }
 
-// How many cells of each level lie below a rise on its side of the ground: of level 1 first. Each level's come from those of the next.
-fn cells_below(second: bool, rise: u32) -> [u32; 10]
-    ensures { λ r. ⌜ r ≡ cellsBelow (radicesOf second) rise ⌝ }
-{
-    let nine = whole(second, 9, rise);
-    let eight = whole(second, 8, nine);
-    let seven = whole(second, 7, eight);
-    let six = whole(second, 6, seven);
-    let five = whole(second, 5, six);
-    let four = whole(second, 4, five);
-    let three = whole(second, 3, four);
-    let two = whole(second, 2, three);
-    let one = whole(second, 1, two);
-    [one, two, three, four, five, six, seven, eight, nine, rise]
-}
-
-// Level 1: the sign, then two decimal digits.
+// Level 1, n of whose cells lie below the layer: the sign, then two decimal digits.
 fn put_first(above: bool, n: u32, line: &mut [u8])
-    requires { ⌜ (n < 100) × (3 ≤ length (now line)) ⌝ }
-    ensures { λ _. ⌜ now (line .exit) ≡ sets (now (line .entry)) 0 (firstHeight above n) ⌝ }
+    requires { ⌜ (n < 100) × (lengthIn true 1 ≤ length (now line)) ⌝ }
+    ensures { λ _. ⌜ now (line .exit) ≡ spreadBack heightPlace 0 (firstHeight above n) (now (line .entry)) ⌝ }
 {
-    line[0] = sign_of(above);
-    line[1] = (48 + n / 10) as u8;
-    line[2] = (48 + n % 10) as u8;
+    line[grid::height_place(0)] = sign_of(above);
+    line[grid::height_place(1)] = (48 + n / 10) as u8;
+    line[grid::height_place(2)] = (48 + n % 10) as u8;
 }
 
 // Level k + 1, a later one, n of whose cells lie below the layer: nothing where the code ends before it.
 fn put_digit(second: bool, level: u32, k: usize, n: u32, line: &mut [u8])
-    requires { ⌜ (1 ≤ k) × (k < 10) × (level ≤ 10) × (2 + level ≤ length (now line)) ⌝ }
-    ensures { λ _. ⌜ now (line .exit) ≡ sets (now (line .entry)) (k + 2) (laterHeightAt (radicesOf second) level k n) ⌝ }
+    requires { ⌜ (1 ≤ k) × (k < 10) × (level ≤ 10) × (lengthIn true level ≤ length (now line)) ⌝ }
+    ensures { λ _. ⌜ now (line .exit) ≡ spreadBack heightPlace (k + 2) (laterHeightAt (radicesOf second) level k n) (now (line .entry)) ⌝ }
 {
     if level as usize <= k {
         return;
     }
-    line[k + 2] = grid::character(left(second, k, n));
+    line[grid::height_place(k + 2)] = grid::character(left(second, k, n));
 }
 
-// The height characters of a code of a level, from the line's beginning on; the bytes after them stay.
+// The height characters of a code of a level, each at its place in the space code; the bytes between them stay. The finest level comes first: how many
+// cells of each level lie below the rise on its side of the ground comes from those of the next, and nothing else is kept.
 pub fn put(second: bool, level: u32, above: bool, rise: u32, line: &mut [u8])
     requires { ⌜ HeightWritable (radicesOf second) level rise (now line) ⌝ }
-    ensures { λ _. ⌜ now (line .exit) ≡ sets (now (line .entry)) 0 (map charOf (heightDigits (radicesOf second) level (layerOf (product (radicesOf second)) above rise))) ⌝ }
+    ensures { λ _. ⌜ now (line .exit) ≡ spreadBack heightPlace 0 (map charOf (heightDigits (radicesOf second) level (layerOf (product (radicesOf second)) above rise))) (now (line .entry)) ⌝ }
 {
-    let ns = cells_below(second, rise);
-    put_first(above, ns[0], line);
-    put_digit(second, level, 1, ns[1], line);
-    put_digit(second, level, 2, ns[2], line);
-    put_digit(second, level, 3, ns[3], line);
-    put_digit(second, level, 4, ns[4], line);
-    put_digit(second, level, 5, ns[5], line);
-    put_digit(second, level, 6, ns[6], line);
-    put_digit(second, level, 7, ns[7], line);
-    put_digit(second, level, 8, ns[8], line);
-    put_digit(second, level, 9, ns[9], line);
+    put_digit(second, level, 9, rise, line);
+    let nine = whole(second, 9, rise);
+    put_digit(second, level, 8, nine, line);
+    let eight = whole(second, 8, nine);
+    put_digit(second, level, 7, eight, line);
+    let seven = whole(second, 7, eight);
+    put_digit(second, level, 6, seven, line);
+    let six = whole(second, 6, seven);
+    put_digit(second, level, 5, six, line);
+    let five = whole(second, 5, six);
+    put_digit(second, level, 4, five, line);
+    let four = whole(second, 4, five);
+    put_digit(second, level, 3, four, line);
+    let three = whole(second, 3, four);
+    put_digit(second, level, 2, three, line);
+    let two = whole(second, 2, three);
+    put_digit(second, level, 1, two, line);
+    put_first(above, whole(second, 1, two), line);
 }
 
 // ---- reading
@@ -242,21 +240,21 @@ impl Height {
         }
     }
 
-    // After level 1 of the characters, which stand at these places of the code.
-    fn start(rs: [u32; 10], level: u32, places: [u8; 12], code: &[u8]) -> Height
-        requires { ⌜ Fair rs × Readable level places (now code) ⌝ }
-        ensures { λ r. ⌜ Upto rs level 1 (standing level places (now (code .entry))) r ⌝ }
+    // After level 1 of the height characters of a space code.
+    fn start(rs: [u32; 10], level: u32, code: &[u8]) -> Height
+        requires { ⌜ Fair rs × Readable level (now code) ⌝ }
+        ensures { λ r. ⌜ Upto rs level 1 (standing level (now (code .entry))) r ⌝ }
     {
-        let s = grid::decimal_value(code[places[0] as usize]);
-        let a = grid::decimal_value(code[places[1] as usize]);
-        let b = grid::decimal_value(code[places[2] as usize]);
+        let s = grid::decimal_value(code[grid::height_place(0)]);
+        let a = grid::decimal_value(code[grid::height_place(1)]);
+        let b = grid::decimal_value(code[grid::height_place(2)]);
         Height::first(rs, s, a, b)
     }
 
     // After the digit of level k + 1, where the code has it and all before it were allowed; else where it was.
-    fn next(self, rs: [u32; 10], level: u32, k: usize, places: [u8; 12], code: &[u8]) -> Height
-        requires { ⌜ Fair rs × (1 ≤ k) × (k < 10) × Readable level places (now code) × Upto rs level k (standing level places (now code)) self ⌝ }
-        ensures { λ r. ⌜ Upto rs level (k + 1) (standing level places (now (code .entry))) r ⌝ }
+    fn next(self, rs: [u32; 10], level: u32, k: usize, code: &[u8]) -> Height
+        requires { ⌜ Fair rs × (1 ≤ k) × (k < 10) × Readable level (now code) × Upto rs level k (standing level (now code)) self ⌝ }
+        ensures { λ r. ⌜ Upto rs level (k + 1) (standing level (now (code .entry))) r ⌝ }
     {
         if level as usize <= k {
             return self;
@@ -264,7 +262,7 @@ impl Height {
         if !self.good {
             return self;
         }
-        let v = grid::digit_below(rs[k], code[places[k + 2] as usize]);
+        let v = grid::digit_below(rs[k], code[grid::height_place(k + 2)]);
         if rs[k] <= v {
             return refused(k + 2);
         }
@@ -291,30 +289,29 @@ impl Height {
 }
 
 // All the levels, over any radices.
-fn read_over(rs: [u32; 10], level: u32, places: [u8; 12], code: &[u8]) -> LayersRead
-    requires { ⌜ Fair rs × Readable level places (now code) ⌝ }
-    ensures { λ r. ⌜ layersAnswer r ≡ heightAnswer rs level (map digitOf (standing level places (now (code .entry)))) ⌝ }
+fn read_over(rs: [u32; 10], level: u32, code: &[u8]) -> LayersRead
+    requires { ⌜ Fair rs × Readable level (now code) ⌝ }
+    ensures { λ r. ⌜ layersAnswer r ≡ heightAnswer rs level (map digitOf (standing level (now (code .entry)))) ⌝ }
 {
-    Height::start(rs, level, places, code)
-        .next(rs, level, 1, places, code)
-        .next(rs, level, 2, places, code)
-        .next(rs, level, 3, places, code)
-        .next(rs, level, 4, places, code)
-        .next(rs, level, 5, places, code)
-        .next(rs, level, 6, places, code)
-        .next(rs, level, 7, places, code)
-        .next(rs, level, 8, places, code)
-        .next(rs, level, 9, places, code)
+    Height::start(rs, level, code)
+        .next(rs, level, 1, code)
+        .next(rs, level, 2, code)
+        .next(rs, level, 3, code)
+        .next(rs, level, 4, code)
+        .next(rs, level, 5, code)
+        .next(rs, level, 6, code)
+        .next(rs, level, 7, code)
+        .next(rs, level, 8, code)
+        .next(rs, level, 9, code)
         .answer()
 }
 
-// The layers that the height characters of a code of a level lead to, which stand at these places of it; or refusal 7 with the place of the first that is
-// not allowed, among these alone.
-pub fn read(second: bool, level: u32, places: [u8; 12], code: &[u8]) -> LayersRead
-    requires { ⌜ Readable level places (now code) ⌝ }
-    ensures { λ r. ⌜ layersAnswer r ≡ heightAnswer (radicesOf second) level (map digitOf (standing level places (now (code .entry)))) ⌝ }
+// The layers that the height characters of a space code of a level lead to; or refusal 7 with the place of the first that is not allowed, among these alone.
+pub fn read(second: bool, level: u32, code: &[u8]) -> LayersRead
+    requires { ⌜ Readable level (now code) ⌝ }
+    ensures { λ r. ⌜ layersAnswer r ≡ heightAnswer (radicesOf second) level (map digitOf (standing level (now (code .entry)))) ⌝ }
 {
-    read_over(radices_of(second), level, places, code)
+    read_over(radices_of(second), level, code)
 }
 
 // ---- the lower face

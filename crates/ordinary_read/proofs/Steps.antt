@@ -1,6 +1,6 @@
 -- The laws of a cursor's methods: where it starts, the child in a column and a row, and one level's characters read.
 -- Assumes nothing.
-use mathlib.Core.Path.{_≡_, refl, sym, _∙_, ap}
+use mathlib.Core.Path.{_≡_, refl, sym, _∙_, ap, subst}
 use mathlib.Core.Bool.{Bool, true, false, cond, _&&_}
 use mathlib.Core.List.{List, [], _∷_}
 use Prim.Native.Nat.{ℕ, _+_, _-_, _*_, _/_, _%_, _≤_, _<_}
@@ -12,7 +12,8 @@ use borrow.Author.Tests.{lt-ltb, le-ltb, le-leb, leb-true, leb-false}
 use Rattle.grid.specs.declared.Split.{Split}
 use Rattle.grid.specs.Units.{HALF, POLAR}
 use Rattle.grid.specs.Characters.{digitOf}
-use Rattle.grid.specs.inner.Roads.{DigitBelow}
+use Rattle.grid.specs.inner.Roads.{DigitBelow, placeOf}
+use Rattle.grid.specs.inner.Standing.{levelPlace}
 use Rattle.grid.specs.Tree.{Read, ok, bad, guard, shift}
 use Rattle.grid.specs.Splits.{first}
 use Rattle.grid.specs.Answers.{accepted, refused, wrongCharacter}
@@ -21,7 +22,7 @@ use Rattle.grid.proofs.Cut.{clash, cut-end, and-true}
 use Rattle.grid.proofs.Characters.{told, guard-below}
 use Rattle.grid.proofs.Lists.{map-one, map-two}
 use Rattle.ordinary_read.specs.declared.Cursor.{Cursor}
-use Rattle.ordinary_read.specs.inner.Reading.{ordinaryBox, ordinaryRead, levelDigits, onward, ordinaryAnswer, Inside, DividedBy, OneCharacter, goesOn, LevelNext, AtSheet, Child, Onward}
+use Rattle.ordinary_read.specs.inner.Reading.{ordinaryBox, ordinaryRead, levelDigits, onward, ordinaryAnswer, Inside, DividedBy, OneCharacter, goesOn, LevelNext, Before, AtSheet, Child, Onward}
 
 -- ---- the cell of level 1
 
@@ -107,36 +108,42 @@ module _ (s : Split) (column row : ℕ) (c : Cursor) where
 
 -- ---- one level's characters
 
--- a character before it was not allowed
-pub onward-bad : (s : Split) (w : List ℕ) (p : ℕ) → bad p ≡ onward s w (bad p)
-onward-bad s w p = go (leb (s .length) (length w))
+-- wherever they stand, they end within the longest code
+pub place-room : {spaced : Bool} {k : ℕ} {s : Split} {n : ℕ} {c : Cursor} {at : ℕ} → at ≡ levelPlace spaced k s → Before spaced k s n c → at + s .characters ≤ 32
+place-room {spaced = true} e p = omega (arith, p .placed)
+place-room {spaced = false} e p = omega (arith, p .placed)
+
+-- a character before them was not allowed
+pub onward-bad : (s : Split) (at : ℕ) (w : List ℕ) (p : ℕ) → bad p ≡ onward s at w (bad p)
+onward-bad s at w p = go (leb (at + s .characters) (length w))
   where
     go : (q : Bool) → _≡_ {A = Read Node} (bad p) (cond q (bad p) (bad p))
     go true = refl
     go false = refl
 
--- the cursor stays where it was
-pub onward-held : (s : Split) (w : List ℕ) (c : Cursor) → goesOn s (length w) c ≡ false → LevelNext s (length w) c → Onward s w c c
-onward-held s w c e p = go (c .good) refl (leb (s .length) (length w)) refl e
-  where
-    go : (g : Bool) → c .good ≡ g → (q : Bool) → leb (s .length) (length w) ≡ q → (g && q) ≡ false → Onward s w c c
-    go false g q l e = record { read = rw g (onward-bad s w (c .place)); reached = λ t. clash (cc) }
-    go true g false l e =
-        record { read = rw l refl; reached = λ t. (p t .0, λ k. let n : length w < s .length = leb-false _ _ l in absurd (omega arith)) }
-    go true g true l e = clash (cc)
-
 -- the cursor goes on, and the level divides its cell
-pub record Goes (s : Split) (n : ℕ) (c : Cursor) : Type 0 where
+pub record Goes (s : Split) (at : ℕ) (w : List ℕ) (c : Cursor) : Type 0 where
   pub good : c .good ≡ true
-  pub long : s .length ≤ n
+  pub long : at + s .characters ≤ length w
   pub inside : Inside c
   pub divides : DividedBy s c
 
-pub goes : (s : Split) (n : ℕ) (c : Cursor) → goesOn s n c ≡ true → LevelNext s n c → Goes s n c
-goes s n c e p =
-    let a = and-true (c .good) (leb (s .length) n) e in
-    let l : s .length ≤ n = leb-true _ _ (a .1) in
-    record { good = a .0; long = l; inside = p (a .0) .0; divides = p (a .0) .1 l }
+module _ (s : Split) {at place : ℕ} (e : at ≡ place) (w : List ℕ) (c : Cursor) (p : LevelNext s place (length w) c) where
+  -- the cursor stays where it was
+  pub onward-held : goesOn s at (length w) c ≡ false → Onward s place w c c
+  onward-held f = go (c .good) refl (leb (place + s .characters) (length w)) refl (subst (λ (i : ℕ). goesOn s i (length w) c ≡ false) e f)
+    where
+      go : (g : Bool) → c .good ≡ g → (q : Bool) → leb (place + s .characters) (length w) ≡ q → (g && q) ≡ false → Onward s place w c c
+      go false g q l f = record { read = rw g (onward-bad s place w (c .place)); reached = λ t. clash (cc) }
+      go true g false l f =
+          record { read = rw l refl; reached = λ t. (p t .0, λ k. let n : length w < place + s .characters = leb-false _ _ l in absurd (omega arith)) }
+      go true g true l f = clash (cc)
+
+  pub goes : goesOn s at (length w) c ≡ true → Goes s at w c
+  goes f =
+      let a = and-true (c .good) (leb (at + s .characters) (length w)) f in
+      let l : at + s .characters ≤ length w = leb-true _ _ (a .1) in
+      record { good = a .0; long = l; inside = p (a .0) .0; divides = p (a .0) .1 (omega arith) }
 
 -- two tests at their places
 pair-guards : {A : Type 0} (at l : ℕ) (a b : Bool) (x : A) → at + 1 ≡ l
@@ -151,48 +158,49 @@ single-guards at l p true true x t e = refl
 single-guards at l p true false x t e = ap bad (sym e)
 single-guards at l p false b x t e = clash (cc)
 
-module _ (s : Split) (w : List ℕ) (c : Cursor) (h : s .length ≤ length w) (g : c .good ≡ true) (d : DividedBy s c) where
+module _ (s : Split) {at place : ℕ} (e : at ≡ place) (w : List ℕ) (c : Cursor) (h : Goes s at w c) where
   -- the child of the cursor's cell
   abbrev childAt : ℕ → ℕ → Node
   childAt column row = cell (ordinary (c .north) (c .east)) (sub (plainPart s) (ordinaryBox c) column row)
 
-  here : s .length - s .characters ≡ c .place
-  here = omega (arith, d .at)
-
   -- reading on reads the level's digits by its form
-  goes-on : (f : Form) (l : List ℕ) → formOf (s .characters) (s .columns) ≡ f → levelDigits s w ≡ l
-      → onward s w (ordinaryRead c) ≡ shift (c .place) (readAs f false (plainPart s) childAt l)
-  goes-on f l e k = rw (le-leb (s .length) (length w) h, g, k, e, here) refl
+  goes-on : (f : Form) (l : List ℕ) → formOf (s .characters) (s .columns) ≡ f → levelDigits s at w ≡ l
+      → onward s at w (ordinaryRead c) ≡ shift (c .place) (readAs f false (plainPart s) childAt l)
+  goes-on f l e k =
+      let here : placeOf s ≡ c .place = omega (arith, h .divides .at) in
+      rw (le-leb (at + s .characters) (length w) (h .long), h .good, k, e, here) refl
 
-  pub onward-pair : (a b : ℕ) (r : Cursor) → s .characters ≡ 2 → DigitBelow (s .columns) (getD w (c .place) 0) a → DigitBelow (s .rows) (getD w (c .place + 1) 0) b
-      → Child s a b c r → Onward s w c r
+  pub onward-pair : (a b : ℕ) (r : Cursor) → s .characters ≡ 2 → DigitBelow (s .columns) (getD w at 0) a → DigitBelow (s .rows) (getD w (at + 1) 0) b
+      → Child s a b c r → Onward s place w c r
   onward-pair a b r two p q k =
-      let u : ℕ = digitOf (getD w (c .place) 0) in
-      let v : ℕ = digitOf (getD w (c .place + 1) 0) in
-      let l : levelDigits s w ≡ u ∷ v ∷ [] = rw (here, two) (map-two digitOf w (c .place) (omega (arith, d .at))) in
+      let u : ℕ = digitOf (getD w at 0) in
+      let v : ℕ = digitOf (getD w (at + 1) 0) in
+      let l : levelDigits s at w ≡ u ∷ v ∷ [] = rw two (map-two digitOf w at (omega (arith, h .long))) in
       let rowAt : ℕ → ℕ → Read Node = λ column row. guard (s .length - 1) (ltb row (s .rows)) (ok (childAt column row)) in
-      record {
+      subst (λ (i : ℕ). Onward s i w c r) e
+      (record {
         read = k .read ∙ guard-below p (c .place) (s .columns) (λ x. rowAt x b) (omega arith)
             ∙ ap (guard (c .place) (ltb u (s .columns))) (guard-below q (s .length - 1) (s .rows) (λ y. ok (childAt u y)) (omega arith))
-            ∙ pair-guards (c .place) (s .length - 1) (ltb u (s .columns)) (ltb v (s .rows)) (childAt u v) (omega (arith, d .at)) ∙ sym (goes-on pair (u ∷ v ∷ []) (rw two refl) l);
+            ∙ pair-guards (c .place) (s .length - 1) (ltb u (s .columns)) (ltb v (s .rows)) (childAt u v) (omega (arith, h .divides .at)) ∙ sym (goes-on pair (u ∷ v ∷ []) (rw two refl) l);
         reached = λ x. (k .reached x .0, λ _. k .reached x .1);
-      }
+      })
 
-  pub onward-single : (a : ℕ) (r : Cursor) → OneCharacter s → DigitBelow 10 (getD w (c .place) 0) a
-      → Child s (a % 2) (a / 2) c r → Onward s w c r
+  pub onward-single : (a : ℕ) (r : Cursor) → OneCharacter s → DigitBelow 10 (getD w at 0) a
+      → Child s (a % 2) (a / 2) c r → Onward s place w c r
   onward-single a r o p k =
-      let u : ℕ = digitOf (getD w (c .place) 0) in
+      let u : ℕ = digitOf (getD w at 0) in
       let one : s .characters ≡ 1 = o .one in
       let two : s .columns ≡ 2 = o .two-columns in
       let few : 2 * s .rows ≤ 10 = o .few-rows in
-      let l : levelDigits s w ≡ u ∷ [] = rw (here, one) (map-one digitOf w (c .place) (omega (arith, d .at))) in
-      record {
+      let l : levelDigits s at w ≡ u ∷ [] = rw one (map-one digitOf w at (omega (arith, h .long))) in
+      subst (λ (i : ℕ). Onward s i w c r) e
+      (record {
         read = k .read
             ∙ told p (λ x. guard (c .place) (ltb (x % 2) (s .columns)) (guard (s .length - 1) (ltb (x / 2) (s .rows)) (ok (childAt (x % 2) (x / 2))))) (bad (s .length - 1))
             (λ m h. rw (lt-ltb (m % 2) (s .columns) (omega arith), le-ltb (m / 2) (s .rows) (omega arith)) refl)
-            ∙ single-guards (c .place) (s .length - 1) (c .place) (ltb (u % 2) (s .columns)) (ltb (u / 2) (s .rows)) (childAt (u % 2) (u / 2)) (lt-ltb (u % 2) (s .columns) (omega arith)) (omega (arith, d .at)) ∙ sym (goes-on quad (u ∷ []) (rw (one, two) refl) l);
+            ∙ single-guards (c .place) (s .length - 1) (c .place) (ltb (u % 2) (s .columns)) (ltb (u / 2) (s .rows)) (childAt (u % 2) (u / 2)) (lt-ltb (u % 2) (s .columns) (omega arith)) (omega (arith, h .divides .at)) ∙ sym (goes-on quad (u ∷ []) (rw (one, two) refl) l);
         reached = λ x. (k .reached x .0, λ _. k .reached x .1);
-      }
+      })
 
 -- ---- the answer
 

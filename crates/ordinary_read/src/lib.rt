@@ -2,14 +2,15 @@
 // The reading place is a value: a cursor, and each level read hands back the next one.
 
 ghost use mathlib.Core.Path.{_≡_};
-ghost use mathlib.Core.Bool.{true};
-ghost use Prim.Native.Nat.{_≤_, _<_};
+ghost use mathlib.Core.Bool.{true, false};
+ghost use Prim.Native.Nat.{_+_, _≤_, _<_};
 ghost use lib.ListN.{length};
 ghost use Rattle.grid.specs.Tree.{bad};
 ghost use Rattle.grid.specs.Answers.{planeRead};
 ghost use Rattle.grid.specs.Splits.{first};
 ghost use Rattle.grid.specs.Plane.{sheet};
 ghost use Rattle.grid.specs.inner.Roads.{laterRead};
+ghost use Rattle.grid.specs.inner.Standing.{levelPlace, planeIn};
 ghost use Rattle.ordinary_read.specs.inner.Reading.{
   ordinaryRead,
   ordinaryAnswer,
@@ -18,7 +19,7 @@ ghost use Rattle.ordinary_read.specs.inner.Reading.{
   OneCharacter,
   TwoCharacters,
   goesOn,
-  LevelNext,
+  Before,
   AtSheet,
   Child,
   Onward,
@@ -95,40 +96,41 @@ impl Cursor {
         }
     }
 
-    // Whether all the characters before were allowed, and the code has those of the level s.
-    fn goes_on(self, s: Split, code: &[u8]) -> bool
-        ensures { λ r. ⌜ r ≡ goesOn s (length (now (code .entry))) self ⌝ }
+    // Whether all the characters before were allowed, and the code has those of the level s, which begin at a place.
+    fn goes_on(self, s: Split, at: usize, code: &[u8]) -> bool
+        requires { ⌜ at + s .characters ≤ 32 ⌝ }
+        ensures { λ r. ⌜ r ≡ goesOn s at (length (now (code .entry))) self ⌝ }
     {
         if self.good {
-            s.length <= code.len()
+            at + s.characters <= code.len()
         } else {
             false
         }
     }
 
-    // Past the two characters of the level s, column and then row, where the cursor goes on; else where it was.
-    fn pair(self, s: Split, code: &[u8]) -> Cursor
-        requires { ⌜ LevelNext s (length (now code)) self × TwoCharacters s ⌝ }
-        ensures { λ r. ⌜ Onward s (now (code .entry)) self r ⌝ }
+    // Past the two characters of the level s, which is level k + 1, column and then row, where the cursor goes on; else where it was.
+    fn pair(self, spaced: bool, k: u32, s: Split, code: &[u8]) -> Cursor
+        requires { ⌜ Before spaced k s (length (now code)) self × TwoCharacters s ⌝ }
+        ensures { λ r. ⌜ Onward s (levelPlace spaced k s) (now (code .entry)) self r ⌝ }
     {
-        if !self.goes_on(s, code) {
+        let at = grid::level_place(spaced, k, s);
+        if !self.goes_on(s, at, code) {
             return self;
         }
-        let at = self.place;
         let column = grid::digit_below(s.columns, code[at]);
         let row = grid::digit_below(s.rows, code[at + 1]);
         self.child(s, column, row)
     }
 
     // The same past the one character of the level s, 2 · row + column.
-    fn single(self, s: Split, code: &[u8]) -> Cursor
-        requires { ⌜ LevelNext s (length (now code)) self × OneCharacter s ⌝ }
-        ensures { λ r. ⌜ Onward s (now (code .entry)) self r ⌝ }
+    fn single(self, spaced: bool, k: u32, s: Split, code: &[u8]) -> Cursor
+        requires { ⌜ Before spaced k s (length (now code)) self × OneCharacter s ⌝ }
+        ensures { λ r. ⌜ Onward s (levelPlace spaced k s) (now (code .entry)) self r ⌝ }
     {
-        if !self.goes_on(s, code) {
+        let at = grid::level_place(spaced, k, s);
+        if !self.goes_on(s, at, code) {
             return self;
         }
-        let at = self.place;
         let both = grid::decimal_value(code[at]);
         self.child(s, both % 2, both / 2)
     }
@@ -154,18 +156,36 @@ impl Cursor {
 // The cell of a code of a level in 1 to 10, or the place of its first character that is not allowed.
 // The first four characters are read: north or south, a zone of 1 to 60 and one of the 22 rows.
 pub fn rest(level: u32, north: bool, zone: u32, row: u32, code: &[u8]) -> PlaneRead
-    requires { ⌜ SheetCode level zone row (length (now code)) ⌝ }
+    requires { ⌜ SheetCode false level zone row (length (now code)) ⌝ }
     ensures { λ r. ⌜ planeRead r ≡ laterRead level (sheet north zone row) (now (code .entry)) ⌝ }
 {
     Cursor::start(north, zone, row)
-        .pair(grid::split_of(1), code)
-        .single(grid::split_of(2), code)
-        .pair(grid::split_of(3), code)
-        .pair(grid::split_of(4), code)
-        .single(grid::split_of(5), code)
-        .pair(grid::split_of(6), code)
-        .pair(grid::split_of(7), code)
-        .pair(grid::split_of(8), code)
-        .pair(grid::split_of(9), code)
+        .pair(false, 1, grid::split_of(1), code)
+        .single(false, 2, grid::split_of(2), code)
+        .pair(false, 3, grid::split_of(3), code)
+        .pair(false, 4, grid::split_of(4), code)
+        .single(false, 5, grid::split_of(5), code)
+        .pair(false, 6, grid::split_of(6), code)
+        .pair(false, 7, grid::split_of(7), code)
+        .pair(false, 8, grid::split_of(8), code)
+        .pair(false, 9, grid::split_of(9), code)
+        .answer(level)
+}
+
+// The same of the plane characters of a space code, read where they stand; a bad one's place is counted among them.
+pub fn rest_in_space(level: u32, north: bool, zone: u32, row: u32, code: &[u8]) -> PlaneRead
+    requires { ⌜ SheetCode true level zone row (length (now code)) ⌝ }
+    ensures { λ r. ⌜ planeRead r ≡ laterRead level (sheet north zone row) (planeIn true level (now (code .entry))) ⌝ }
+{
+    Cursor::start(north, zone, row)
+        .pair(true, 1, grid::split_of(1), code)
+        .single(true, 2, grid::split_of(2), code)
+        .pair(true, 3, grid::split_of(3), code)
+        .pair(true, 4, grid::split_of(4), code)
+        .single(true, 5, grid::split_of(5), code)
+        .pair(true, 6, grid::split_of(6), code)
+        .pair(true, 7, grid::split_of(7), code)
+        .pair(true, 8, grid::split_of(8), code)
+        .pair(true, 9, grid::split_of(9), code)
         .answer(level)
 }

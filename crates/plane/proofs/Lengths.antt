@@ -1,17 +1,12 @@
 -- Lengths and levels: the table's lengths, both ways. Assumes nothing.
-use mathlib.Core.Path.{_≡_, refl, sym, _∙_, ap}
+use mathlib.Core.Path.{_≡_, refl, sym, ap}
 use mathlib.Core.List.{List, [], _∷_, map}
-use Prim.Native.Nat.{ℕ, _+_, _-_, _≤_, _<_}
-use native.Mathlib.Omega.{arith}
+use Prim.Native.Nat.{ℕ, _-_, _≤_, _<_}
 use lib.ListN.{getD}
-use Rattle.grid.specs.declared.Split.{Split}
-use Rattle.grid.specs.Splits.{splits, splitAt}
+use Rattle.grid.specs.Splits.{splits}
 use Rattle.grid.proofs.Cut.{Entry, tabled}
 use Rattle.grid.proofs.Lengths.{no-place}
 use Rattle.plane.specs.inner.Lengths.{orZero, levelOf}
-
-pub length-at : (k level : ℕ) {s : Split} → s ≡ splitAt k → level ≡ k + 1 → s .length ≡ splitAt (level - 1) .length
-length-at k level e h = ap (λ (s : Split). s .length) e ∙ ap (λ (i : ℕ). splitAt i .length) (let z : k ≡ level - 1 = omega arith in z)
 
 -- the list of LEVELS
 abbrev pub levels : List ℕ
@@ -24,10 +19,3 @@ level-at n h = tabled levels levelOf 21 n refl h
 pub level-none : (n : ℕ) → 21 ≤ n → 0 ≡ levelOf n
 unfolding levelOf
 level-none n h = sym (ap orZero (no-place 21 n 1 (map (λ t. t .length) splits) refl h))
-
--- past a number that it is not
-pub past : (k x : ℕ) → k ≤ x → (x ≡ k → ⊥) → k + 1 ≤ x
-past k x h n = omega arith
-
-pub just : (k x : ℕ) → k ≤ x → x ≤ k → x ≡ k
-just k x h l = omega arith

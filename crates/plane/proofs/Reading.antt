@@ -2,22 +2,24 @@
 use mathlib.Core.Path.{_≡_, refl, sym, _∙_, ap, subst}
 use mathlib.Core.List.{List, map}
 use mathlib.Core.Option.{Option, some, none}
-use Prim.Native.Nat.{ℕ, zero, suc, _-_, _≤_}
+use Prim.Native.Nat.{ℕ, zero, suc, _-_, _≤_, _<_}
 use native.Mathlib.Omega.{arith}
 use lib.Dec.{leb}
 use lib.ListN.{length, take, drop}
 use borrow.Author.Tests.{leb-true}
 use Rattle.grid.specs.declared.Cell.{Cell}
+use Rattle.grid.specs.declared.Place.{Place}
+use Rattle.grid.specs.Units.{HALF, QUARTER}
 use Rattle.grid.specs.Characters.{digitOf}
 use Rattle.grid.specs.Tree.{Read, ok, bad, next, follow}
 use Rattle.grid.specs.Answers.{Answer, refused, wrongLength, wrongCharacter}
 use Rattle.grid.specs.Codes.{placeIn, answer, answerAt, readIn}
 use Rattle.grid.specs.Splits.{splits, splitAt}
-use Rattle.grid.specs.Plane.{Node, plane, globeChild, planeCodes, cellOf}
-use Rattle.grid.specs.inner.Roads.{laterRead}
+use Rattle.grid.specs.Plane.{Node, plane, globeChild, planeCodes, codeOf, cellOf}
+use Rattle.grid.specs.inner.Roads.{squareOf, laterRead}
 use Rattle.grid.proofs.Cut.{below}
 use Rattle.grid.proofs.Lists.{drop-map}
-use Rattle.grid.proofs.Families.{level-length}
+use Rattle.grid.proofs.Families.{level-length, length-level}
 use Rattle.grid.proofs.Lengths.{total-length}
 use Rattle.grid.proofs.Theorems.{plane-sound}
 use Rattle.plane.specs.inner.Lengths.{orZero, levelOf}
@@ -45,6 +47,12 @@ leveled n {l} e h = go (placeIn n 1 lengths) refl
         let q : l ≡ k = e ∙ ap orZero p in
         let t = level-length planeCodes plane-sound n k p in
         subst (Leveled n) (sym q) (record { place = p; low = t .0; high = t .1; long = t .2 ∙ total-length k (t .0) (t .1) })
+
+-- a code that is as long as those of a level
+pub leveled-at : (n l : ℕ) → 1 ≤ l → l ≤ 10 → n ≡ splitAt (l - 1) .length → Leveled n l
+unfolding planeCodes
+leveled-at n l a b e =
+    record { place = rw (e ∙ sym (total-length l a b)) (length-level planeCodes plane-sound l a b); low = a; high = b; long = e }
 
 module _ (w : List ℕ) where
   pub read-none : {l : ℕ} → l ≡ levelOf (length w) → l ≡ 0 → refused wrongLength ≡ cellOf w
@@ -79,3 +87,7 @@ four-in l low high = leb-true 4 _ (below (λ k. leb 4 (splitAt k .length)) 10 (l
 
 pub length-four : {n l : ℕ} → Leveled n l → 4 ≤ n
 length-four {n} {l} t = let e : n ≡ splitAt (l - 1) .length = t .long in omega (arith, e, four-in l (t .low) (t .high))
+
+-- how long the code of a place is
+pub place-length : (level : ℕ) (p : Place) → 1 ≤ level → level ≤ 10 → p .x < HALF → p .y < QUARTER → length (codeOf level (squareOf p)) ≡ splitAt (level - 1) .length
+place-length level p a b x y = code-length level (squareOf p) (on-globe p x y) a b

@@ -13,12 +13,15 @@ use lib.ListN.{length, take, getD}
 use borrow.Author.Tests.{lt-ltb, le-ltb, le-leb, lt-leb, eqb-true, eqb-false, eq-eqb, ne-eqb}
 use Rattle.grid.specs.Characters.{charOf, digitOf}
 use Rattle.grid.specs.inner.Roads.{DigitBelow}
-use Rattle.grid.specs.Splits.{first}
+use Rattle.grid.specs.Splits.{first, splitAt}
+use Rattle.grid.specs.inner.Standing.{zonePlace, lengthIn, planePlace, standsAt, planeIn}
 use Rattle.grid.specs.Tree.{Read, ok, bad, guard}
 use Rattle.grid.specs.Plane.{Node, pole, sheet, letter, globeChild}
 use Rattle.grid.proofs.Cut.{clash}
+use Rattle.grid.proofs.Lengths.{grows}
+use Rattle.grid.proofs.Standing.{plane-long, plane-at}
 use Rattle.grid.proofs.Characters.{digit-char, char-digit, told}
-use Rattle.plane.specs.inner.Start.{northOrSouth, letteredRead, zonedRead}
+use Rattle.plane.specs.inner.Start.{firstDigits, northOrSouth, letteredRead, zonedRead}
 
 module _ (n : Bool) (z d : ℕ) where
   pub letter-low : d < 10 → bad 3 ≡ letteredRead n z d
@@ -122,27 +125,44 @@ stray-is a n s e f u v = go (eqb n 0) refl (eqb s 0) refl
         let m : 0 < n * s = mul-pos (omega arith) (omega arith) in
         rw (ne-eqb (n * s) 0 (λ x. omega arith), ne-eqb a 78 (λ x. omega arith), ne-eqb a 83 (λ x. omega arith)) refl
 
-module _ (l : List ℕ) (h : 4 ≤ length l) where
-  pub starts-neither : northOrSouth (getD l 0 0) ≡ false → bad 0 ≡ globeChild (take 4 (map digitOf l))
+module _ (spaced : Bool) (w : List ℕ) where
+  abbrev a : ℕ
+  a = getD w 0 0
+
+  pub starts-neither : northOrSouth a ≡ false → bad 0 ≡ globeChild (firstDigits spaced w)
   unfolding charOf
-  starts-neither = go (eqb (getD l 0 0) 78) refl
+  starts-neither = go (eqb a 78) refl
     where
-      go : (q : Bool) → eqb (getD l 0 0) 78 ≡ q → (q || eqb (getD l 0 0) 83) ≡ false → bad 0 ≡ globeChild (take 4 (map digitOf l))
+      go : (q : Bool) → eqb a 78 ≡ q → (q || eqb a 83) ≡ false → bad 0 ≡ globeChild (firstDigits spaced w)
       go true q e = clash (cc)
       go false q e =
-          rw (four l h, ne-eqb (digitOf (getD l 0 0)) 23 (letter-is-not _ 23 (omega arith) (eqb-false _ _ q)), ne-eqb (digitOf (getD l 0 0)) 28 (letter-is-not _ 28 (omega arith) (eqb-false _ _ e))) refl
+          rw (ne-eqb (digitOf a) 23 (letter-is-not _ 23 (omega arith) (eqb-false _ _ q)), ne-eqb (digitOf a) 28 (letter-is-not _ 28 (omega arith) (eqb-false _ _ e))) refl
 
   -- the letter is N or S
-  starts-letter : northOrSouth (getD l 0 0) ≡ true → digitOf (getD l 0 0) ≡ letter (eqb (getD l 0 0) 78)
+  starts-letter : northOrSouth a ≡ true → digitOf a ≡ letter (eqb a 78)
   unfolding charOf
-  starts-letter = go (eqb (getD l 0 0) 78) refl
+  starts-letter = go (eqb a 78) refl
     where
-      go : (q : Bool) → eqb (getD l 0 0) 78 ≡ q → (q || eqb (getD l 0 0) 83) ≡ true → digitOf (getD l 0 0) ≡ letter q
+      go : (q : Bool) → eqb a 78 ≡ q → (q || eqb a 83) ≡ true → digitOf a ≡ letter q
       go true q e = letter-is _ 23 (omega arith) (eqb-true _ _ q)
       go false q e = letter-is _ 28 (omega arith) (eqb-true _ _ e)
 
-  pub starts-zoned : {b c d : ℕ} {r : Read Node} → DigitBelow 10 (getD l 1 0) b → DigitBelow 10 (getD l 2 0) c → DigitBelow 32 (getD l 3 0) d
-      → northOrSouth (getD l 0 0) ≡ true → r ≡ zonedRead (eqb (getD l 0 0) 78) b c d → r ≡ globeChild (take 4 (map digitOf l))
-  starts-zoned x y z e q =
-      let n : Bool = eqb (getD l 0 0) 78 in
-      q ∙ zoned-told n x y z ∙ zoned-child n (digitOf (getD l 1 0)) (digitOf (getD l 2 0)) (digitOf (getD l 3 0)) ∙ rw (four l h, starts-letter e) refl
+  pub starts-zoned : {at b c d : ℕ} {r : Read Node} → at ≡ zonePlace spaced → DigitBelow 10 (getD w at 0) b → DigitBelow 10 (getD w (at + 1) 0) c → DigitBelow 32 (getD w (at + 2) 0) d
+      → northOrSouth a ≡ true → r ≡ zonedRead (eqb a 78) b c d → r ≡ globeChild (firstDigits spaced w)
+  starts-zoned {at} p x y z e q =
+      let n : Bool = eqb a 78 in
+      q ∙ zoned-told n x y z ∙ zoned-child n (digitOf (getD w at 0)) (digitOf (getD w (at + 1) 0)) (digitOf (getD w (at + 2) 0)) ∙ rw (starts-letter e, p) refl
+
+-- they are those of the plane code among the characters of a code
+pub first-digits : (spaced : Bool) (level : ℕ) (w : List ℕ) → 1 ≤ level → level ≤ 10 → length w ≡ lengthIn spaced level → take 4 (map digitOf (planeIn spaced level w)) ≡ firstDigits spaced w
+unfolding planePlace
+first-digits spaced level w low high long =
+    let n = plane-long level w low high spaced long in
+    let f : 4 ≤ splitAt (level - 1) .length = grows 0 (level - 1) (omega arith) (omega arith) in
+    let at = plane-at level w low high spaced in
+    four (planeIn spaced level w) (omega (arith, n, f))
+    ∙ rw (at 0 (omega (arith, f)), at 1 (omega (arith, f)), at 2 (omega (arith, f)), at 3 (omega (arith, f))) (go spaced)
+  where
+    go : (q : Bool) → digitOf (getD w (standsAt q 0) 0) ∷ digitOf (getD w (standsAt q 1) 0) ∷ digitOf (getD w (standsAt q 2) 0) ∷ digitOf (getD w (standsAt q 3) 0) ∷ [] ≡ firstDigits q w
+    go true = refl
+    go false = refl

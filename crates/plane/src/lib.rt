@@ -1,49 +1,30 @@
 // Plane codes of levels 1 to 10 (document 01): from position to code, and from code to cell.
 // The ordinary cells and the polar ones go their own roads below this crate; here the refusals are decided and the line is lent on.
 
-ghost use mathlib.Core.List.{map};
 ghost use mathlib.Core.Path.{_≡_};
-ghost use Prim.Native.Nat.{_-_, _^_, _≤_, _<_};
+ghost use mathlib.Core.Bool.{true, false};
+ghost use Prim.Native.Nat.{_+_, _^_, _≤_, _<_};
 ghost use lib.Dec.{eqb};
-ghost use lib.ListN.{length, take};
+ghost use lib.ListN.{length};
 ghost use lib.Seq.{sets};
-ghost use Rattle.grid.specs.Units.{HALF, QUARTER};
 ghost use Rattle.grid.specs.Ends.{unitIn};
-ghost use Rattle.grid.specs.Splits.{first, splitAt};
-ghost use Rattle.grid.specs.Characters.{digitOf};
-ghost use Rattle.grid.specs.Answers.{accepted, planeRead};
+ghost use Rattle.grid.specs.Splits.{first};
+ghost use Rattle.grid.specs.Answers.{planeRead};
 ghost use Rattle.grid.specs.Laying.{laid, written};
 ghost use Rattle.grid.specs.Plane.{codeOf, cellOf, globeChild};
 ghost use Rattle.grid.specs.inner.Roads.{squareOf};
+ghost use Rattle.grid.specs.inner.Standing.{zonePlace, planePlace, planeIn, spread};
 ghost use Rattle.plane.specs.Text.{levelIn, squareIn, planeTextAt, planeText};
 ghost use Rattle.plane.specs.inner.Asking.{levelAsked, standingAnswer, positionAsked, placeAt, PlaneWritable};
-ghost use Rattle.plane.specs.inner.Lengths.{levelOf};
-ghost use Rattle.plane.specs.inner.Start.{firstRead, Ranged, northOrSouth, letteredRead, zonedRead};
+ghost use Rattle.plane.specs.inner.Lengths.{levelOf, SpaceCode};
+ghost use Rattle.plane.specs.inner.Start.{firstDigits, firstRead, Ranged, northOrSouth, letteredRead, zonedRead};
 use grid::Place;
 use grid::PlaneRead;
 use grid::Refusal;
 use grid::Written;
+pub use grid::length_of;
 pub use grid::outward;
 pub use grid::upper;
-
-// The length of the codes of a level.
-pub fn length_of(level: u32) -> usize
-    requires { ⌜ (1 ≤ level) × (level ≤ 10) ⌝ }
-    ensures { λ r. ⌜ r ≡ splitAt (level - 1) .length ⌝ }
-{
-    match level {
-        1 => grid::split_of(0).length,
-        2 => grid::split_of(1).length,
-        3 => grid::split_of(2).length,
-        4 => grid::split_of(3).length,
-        5 => grid::split_of(4).length,
-        6 => grid::split_of(5).length,
-        7 => grid::split_of(6).length,
-        8 => grid::split_of(7).length,
-        9 => grid::split_of(8).length,
-        _ => grid::split_of(9).length,
-    }
-}
 
 // The place n holds the level of the codes that are n bytes long, 0 where there is none.
 const LEVELS: [u8; 21] = [
@@ -134,15 +115,16 @@ fn stray(a: u8) -> u32
     from_n * from_s
 }
 
-// The first four characters of a code.
-fn begin(code: &[u8]) -> First
-    requires { ⌜ 4 ≤ length (now code) ⌝ }
-    ensures { λ r. ⌜ (firstRead r ≡ globeChild (take 4 (map digitOf (now (code .entry))))) × Ranged r ⌝ }
+// The first four characters of a plane code, or those of a space code that are its plane code's.
+fn begin(spaced: bool, code: &[u8]) -> First
+    requires { ⌜ zonePlace spaced + 3 ≤ length (now code) ⌝ }
+    ensures { λ r. ⌜ (firstRead r ≡ globeChild (firstDigits spaced (now (code .entry)))) × Ranged r ⌝ }
 {
+    let at = grid::zone_place(spaced);
     let a = code[0];
-    let b = grid::decimal_value(code[1]);
-    let c = grid::decimal_value(code[2]);
-    let d = grid::value(code[3]);
+    let b = grid::decimal_value(code[at]);
+    let c = grid::decimal_value(code[at + 1]);
+    let d = grid::value(code[at + 2]);
     if stray(a) != 0 {
         return First::Bad(0);
     }
@@ -215,9 +197,9 @@ pub fn ask_position(ordinal: u32, longitude: i64, latitude: i64) -> AskedPositio
 }
 
 // Writes the code of a level for a place from the line's first byte on. The place is handed over by its parts, which travel in registers: a `Place`
-// would go through memory.
-pub fn put(level: u32, east: bool, north: bool, x: u32, y: u32, line: &mut [u8])
-    requires { ⌜ PlaneWritable level (placeAt east north x y) (now line) ⌝ }
+// would go through memory. In this order line and y stay in the registers that a caller has them in.
+pub fn put(level: u32, east: bool, north: bool, x: u32, line: &mut [u8], y: u32)
+    requires { ⌜ PlaneWritable false level (placeAt east north x y) (now line) ⌝ }
     ensures { λ _. ⌜ now (line .exit) ≡ sets (now (line .entry)) 0 (codeOf level (squareOf (placeAt east north x y))) ⌝ }
 {
     let p = Place {
@@ -233,20 +215,16 @@ pub fn put(level: u32, east: bool, north: bool, x: u32, y: u32, line: &mut [u8])
     }
 }
 
-// Lays the code of a level for a place into the line from `at` on, if there is room: refusal 5, else the number of bytes.
-pub fn lay(level: u32, p: Place, line: &mut [u8], at: usize) -> Written
-    requires { ⌜ (1 ≤ level) × (level ≤ 10) × (p .x < HALF) × (p .y < QUARTER) ⌝ }
-    ensures { λ r. ⌜ (written r, now (line .exit)) ≡ laid (accepted (codeOf level (squareOf p))) (now (line .entry)) at ⌝ }
+// Writes the same characters each at its place in a space code, from the line's first byte on; the bytes between them stay.
+pub fn put_in_space(level: u32, p: Place, line: &mut [u8])
+    requires { ⌜ PlaneWritable true level p (now line) ⌝ }
+    ensures { λ _. ⌜ now (line .exit) ≡ spread planePlace 0 (codeOf level (squareOf p)) (now (line .entry)) ⌝ }
 {
-    if line.len() < at {
-        return Written::Refused(grid::refuse(5));
+    if p.y < grid::POLAR {
+        ordinary_write::put_in_space(level, p, line);
+    } else {
+        polar_write::put_in_space(level, p, line);
     }
-    let n = length_of(level);
-    if line.len() - at < n {
-        return Written::Refused(grid::refuse(5));
-    }
-    put(level, p.east, p.north, p.x, p.y, &mut line[at..]);
-    Written::Bytes(n)
 }
 
 // The plane code of a level for a position: refusals 2, 3 and 5, in that order.
@@ -255,7 +233,14 @@ fn write_at(level: u32, longitude: i64, latitude: i64, line: &mut [u8], at: usiz
     ensures { λ r. ⌜ (written r, now (line .exit)) ≡ laid (planeTextAt level longitude latitude) (now (line .entry)) at ⌝ }
 {
     match ask_position(1, longitude, latitude) {
-        AskedPosition::At(p) => lay(level, p, line, at),
+        AskedPosition::At(p) => {
+            let n = length_of(level);
+            if grid::room_from(line.len(), at) < n {
+                return Written::Refused(grid::refuse(5));
+            }
+            put(level, p.east, p.north, p.x, &mut line[at..], p.y);
+            Written::Bytes(n)
+        }
         AskedPosition::Refused(r) => Written::Refused(r),
     }
 }
@@ -278,9 +263,27 @@ pub fn read(code: &[u8]) -> PlaneRead
     if level == 0 {
         return PlaneRead::Refused(grid::refuse(6));
     }
-    match begin(code) {
+    match begin(false, code) {
         First::Sheet(north, zone, row) => ordinary_read::rest(level, north, zone, row, code),
         First::Pole(north) => polar_read::rest(level, north, code),
+        First::Bad(place) => PlaneRead::Refused(grid::wrong_character(place)),
+    }
+}
+
+// The cell of the plane characters of a space code of a level, read where they stand: refusal 7, with the place of the first bad one among them.
+pub fn read_in_space(level: u32, code: &[u8]) -> PlaneRead
+    requires { ⌜ SpaceCode level (length (now code)) ⌝ }
+    ensures { λ r. ⌜ planeRead r ≡ cellOf (planeIn true level (now (code .entry))) ⌝ }
+{
+    match begin(true, code) {
+        First::Sheet(north, zone, row) => ordinary_read::rest_in_space(
+            level,
+            north,
+            zone,
+            row,
+            code,
+        ),
+        First::Pole(north) => polar_read::rest_in_space(level, north, code),
         First::Bad(place) => PlaneRead::Refused(grid::wrong_character(place)),
     }
 }

@@ -7,7 +7,7 @@ use Prim.Native.Nat.{ℕ, suc, _+_, _-_, _*_, _≤_, _<_, min}
 use native.Mathlib.Omega.{arith}
 use lib.Dec.{ltb, eqb, leb}
 use lib.IntN.{ℤ}
-use lib.ListN.{length, drop}
+use lib.ListN.{drop}
 use borrow.Author.Tests.{eqb-true, leb-true, ltb-true}
 use Rattle.grid.specs.declared.Split.{Split}
 use Rattle.grid.specs.Units.{DEGREE, TURN, HALF, QUARTER}
@@ -18,12 +18,14 @@ use Rattle.grid.specs.Codes.{answer}
 use Rattle.grid.specs.Splits.{splits, splitAt}
 use Rattle.grid.specs.Plane.{Node, pole, least, longitudeAt, leastFromPole, cellFrom, cellAt, planeCodes}
 use Rattle.grid.specs.inner.Roads.{laterRead}
+use Rattle.grid.specs.inner.Standing.{levelPlace, lengthIn, planeIn}
 use Rattle.grid.proofs.Cut.{clash, and-true, below}
-use Rattle.grid.proofs.Lengths.{adds, grows}
+use Rattle.grid.proofs.Lengths.{adds}
 use Rattle.grid.proofs.PlaneLaws.{Good, GoodCell, GoodCap, cell-positive, cap-positive, limX, limY}
+use Rattle.grid.proofs.Standing.{few, level-room}
 use Rattle.polar_read.specs.declared.Cursor.{Cursor}
-use Rattle.polar_read.specs.inner.Reading.{frameOf, polarBox, nodeOf, polarReading, startOf, Round, HasRead, polarStep, soFar, PolarReached, polarAnswer}
-use Rattle.polar_read.specs.inner.Room.{OfLevel, PolarDigits, PolarRoom, PolarReady, Whole}
+use Rattle.polar_read.specs.inner.Reading.{frameOf, polarBox, nodeOf, polarReading, startOf, Round, Moved, levelAmong, polarStep, soFar, PolarReached, polarAnswer}
+use Rattle.polar_read.specs.inner.Room.{OfLevel, HasLevel, PolarDigits, PolarRoom, PolarReady, Whole}
 use Rattle.polar_read.proofs.SoFar.{so-far-on, so-far-bad, so-far-good}
 
 -- a level's characters follow those before
@@ -34,15 +36,15 @@ follows k a b = let e : suc (k - 1) ≡ k = omega arith in rw e at (adds (k - 1)
 digits-at : (k : ℕ) → 1 ≤ k → k < 10 → PolarDigits (splitAt k)
 digits-at k a b =
     let e : k - 1 + 1 ≡ k = omega arith in
-    let t = and-true (leb (splitAt (k - 1 + 1) .columns) (most (k - 1 + 1))) _ (below few 9 (k - 1) refl (omega arith)) in
+    let t = and-true (leb (splitAt (k - 1 + 1) .columns) (most (k - 1 + 1))) _ (below fair 9 (k - 1) refl (omega arith)) in
     let u = and-true (leb (splitAt (k - 1 + 1) .ring) (most (k - 1 + 1))) _ (t .1) in
     subst (λ (j : ℕ). PolarDigits (splitAt j)) e (record { columns = leb-true _ _ (t .0); ring = leb-true _ _ (u .0); inward = leb-true _ _ (u .1) })
   where
     most : ℕ → ℕ
     most i = 10 * splitAt i .characters - 5
 
-    few : ℕ → Bool
-    few i = leb (splitAt (i + 1) .columns) (most (i + 1)) && (leb (splitAt (i + 1) .ring) (most (i + 1)) && leb (splitAt (i + 1) .inward) (most (i + 1)))
+    fair : ℕ → Bool
+    fair i = leb (splitAt (i + 1) .columns) (most (i + 1)) && (leb (splitAt (i + 1) .ring) (most (i + 1)) && leb (splitAt (i + 1) .inward) (most (i + 1)))
 
 -- ---- a good cell lies on the globe and is not empty
 
@@ -93,28 +95,37 @@ wide-of c o = go (c .disc) refl
 
 -- ---- one level more
 
-module _ {level k n : ℕ} {s : Split} {w : List ℕ} {c : Cursor} (r : PolarReady level k s n w c) where
+module _ {spaced : Bool} {level k n : ℕ} {s : Split} {w : List ℕ} {c : Cursor} (r : PolarReady spaced level k s n w c) where
+  abbrev v : List ℕ
+  v = planeIn spaced level w
+
   -- the code has no such level
-  pub level-past : level ≤ k → PolarReached (min (k + 1) level) w c
+  pub level-past : level ≤ k → PolarReached (min (k + 1) level) v c
   level-past h =
       let e : min (k + 1) level ≡ min k level = omega arith in
-      subst (λ (l : ℕ). PolarReached l w c) (sym e) (r .so-far)
+      subst (λ (l : ℕ). PolarReached l v c) (sym e) (r .so-far)
 
   module _ (h : k < level) where
-    at-level : PolarReached k w c
-    at-level = let e : min k level ≡ k = omega arith in subst (λ (l : ℕ). PolarReached l w c) e (r .so-far)
+    at-level : PolarReached k v c
+    at-level = let e : min k level ≡ k = omega arith in subst (λ (l : ℕ). PolarReached l v c) e (r .so-far)
 
-    to-next : {m : Cursor} → PolarReached (k + 1) w m → PolarReached (min (k + 1) level) w m
-    to-next {m} q = let e : min (k + 1) level ≡ k + 1 = omega arith in subst (λ (l : ℕ). PolarReached l w m) (sym e) q
+    to-next : {m : Cursor} → PolarReached (k + 1) v m → PolarReached (min (k + 1) level) v m
+    to-next {m} q = let e : min (k + 1) level ≡ k + 1 = omega arith in subst (λ (l : ℕ). PolarReached l v m) (sym e) q
+
+    -- the code has its characters
+    pub level-there : HasLevel spaced k s n w
+    level-there =
+        let g : levelPlace spaced k s + s .characters ≤ lengthIn spaced level = rw (r .table) (level-room spaced level k h (r .long .most)) in
+        record { last = r .last; size = r .size; room = omega (arith, g, r .size, r .long .long) }
 
     -- a character before was not allowed
-    pub level-bad : c .good ≡ false → PolarReached (min (k + 1) level) w c
+    pub level-bad : c .good ≡ false → PolarReached (min (k + 1) level) v c
     level-bad g =
         let e : polarReading c ≡ bad (c .place) = rw g refl in
-        let b : soFar (c .north) k w ≡ bad (c .place) = sym (at-level .means) ∙ e in
+        let b : soFar (c .north) k v ≡ bad (c .place) = sym (at-level .means) ∙ e in
         to-next
         (record {
-          means = e ∙ sym (so-far-bad (c .north) k w (r .later) (r .last) b);
+          means = e ∙ sym (so-far-bad (c .north) k v (r .later) (r .last) b);
           placed = λ t. clash (cc);
           sided = refl;
           round = at-level .round;
@@ -124,27 +135,21 @@ module _ {level k n : ℕ} {s : Split} {w : List ℕ} {c : Cursor} (r : PolarRea
       starts : c .place + s .characters ≡ splitAt k .length
       starts = rw (at-level .placed g, r .table) (follows k (r .later) (r .last))
 
-      pub level-room : PolarRoom c s
-      level-room =
-          let o = whole k w c (r .later) (omega (arith, r .last)) at-level g in
-          let l : splitAt k .length ≤ 20 = grows k 9 (omega (arith, r .last)) (omega arith) in
+      pub level-cell : PolarRoom c s
+      level-cell =
+          let o = whole k v c (r .later) (omega (arith, r .last)) at-level g in
           let z : s .length ≡ splitAt k .length = ap (λ (t : Split). t .length) (r .table) in
           let d = subst PolarDigits (sym (r .table)) (digits-at k (r .later) (r .last)) in
-          record { good = g; next = starts ∙ sym z; near = omega arith; digits = d; wide = wide-of c o; high = o .high; round = at-level .round }
+          record { good = g; next = starts ∙ sym z; near = omega (arith, few k (r .last)); digits = d; wide = wide-of c o; high = o .high; round = at-level .round }
 
-      pub level-long : c .place + n ≤ length w
-      level-long =
-          let l : splitAt k .length ≤ splitAt (level - 1) .length = grows k (level - 1) (omega arith) (omega (arith, r .long .most)) in
-          omega (arith, starts, r .size, r .long .long)
-
-      pub level-read : {m : Cursor} → HasRead (c .north) (c .place + s .characters) (polarStep c s w) m → PolarReached (min (k + 1) level) w m × (m .north ≡ c .north)
+      pub level-read : {m : Cursor} → Moved c s (polarStep c s (levelAmong spaced k s w)) m → PolarReached (min (k + 1) level) v m × (m .north ≡ c .north)
       unfolding polarStep
       level-read {m} q =
           let e : polarReading c ≡ ok (nodeOf c) = rw g refl in
-          let b : soFar (c .north) k w ≡ ok (nodeOf c) = sym (at-level .means) ∙ e in
+          let b : soFar (c .north) k v ≡ ok (nodeOf c) = sym (at-level .means) ∙ e in
           let z : k + 1 - 1 ≡ k = omega arith in (
             to-next (record {
-              means = q .means ∙ rw (q .sided, so-far-on (c .north) k w (r .later) (r .last) b, at-level .placed g, r .table) refl;
+              means = q .means ∙ rw (q .sided, so-far-on (r .long) (c .north) k (r .later) h b, at-level .placed g, r .table) refl;
               placed = λ t. q .placed t ∙ starts ∙ ap (λ (j : ℕ). splitAt j .length) (sym z);
               sided = refl;
               round = q .round;
@@ -153,8 +158,8 @@ module _ {level k n : ℕ} {s : Split} {w : List ℕ} {c : Cursor} (r : PolarRea
           )
 
 -- what a step asks, at a level that a literal names
-pub ready : {level n : ℕ} {s : Split} {w : List ℕ} {c : Cursor} (k : ℕ) → (leb 1 k && (ltb k 10 && eqb (splitAt k .characters) n)) ≡ true
-    → OfLevel level w → s ≡ splitAt k → PolarReached (min k level) w c → PolarReady level k s n w c
+pub ready : {spaced : Bool} {level n : ℕ} {s : Split} {w : List ℕ} {c : Cursor} (k : ℕ) → (leb 1 k && (ltb k 10 && eqb (splitAt k .characters) n)) ≡ true
+    → OfLevel spaced level w → s ≡ splitAt k → PolarReached (min k level) (planeIn spaced level w) c → PolarReady spaced level k s n w c
 ready {n = n} k t a e r =
     let u = and-true (leb 1 k) _ t in
     let v = and-true (ltb k 10) _ (u .1) in
@@ -216,21 +221,16 @@ module _ {n : Bool} {c : Cursor} (e : c ≡ startOf n) where
   unfolding soFar follow
   start-answers {l} w z q = q ∙ rw (e, z) (rest-is 1 n w)
 
-pub long-two : {level : ℕ} {w : List ℕ} → OfLevel level w → (level ≡ 1 → ⊥) → 6 ≤ length w
-long-two {level} a f =
-    let g : splitAt 1 .length ≤ splitAt (level - 1) .length = grows 1 (level - 1) (omega (arith, a .some)) (omega (arith, a .most)) in
-    omega (arith, a .long)
+-- ---- the last cursor
 
--- the last cursor's answer is the whole reading's
-pub answers : (l : ℕ) (w : List ℕ) {n : Bool} {c : Cursor} {a : Answer Cell} → a ≡ polarAnswer l (polarReading c) → PolarReached (min 10 l) w c → l ≤ 10 → c .north ≡ n → a ≡ laterRead l (pole n) w
-answers l w {n} {c} e r h q =
-    let z : min 10 l ≡ l = omega arith in
-    let m : polarReading c ≡ soFar n l w = r .means ∙ ap (λ (j : ℕ). soFar (c .north) j w) z ∙ ap (λ (b : Bool). soFar b l w) q in
-    e ∙ ap (polarAnswer l) m ∙ rest-is l n w
+module _ {spaced : Bool} {level : ℕ} {w : List ℕ} (o : OfLevel spaced level w) {c : Cursor} (r : PolarReached (min 10 level) (planeIn spaced level w) c) where
+  pub last-whole : c .good ≡ true → Whole c
+  last-whole g = whole (min 10 level) (planeIn spaced level w) c (omega (arith, o .some)) (omega arith) r g
 
-pub last-whole : {level : ℕ} (w : List ℕ) {c : Cursor} → OfLevel level w → PolarReached (min 10 level) w c → c .good ≡ true → Whole c
-last-whole {level} w {c} a r g = whole (min 10 level) w c (omega (arith, a .some)) (omega arith) r g
-
--- level 2 is one of the code's
-pub level-two : {level : ℕ} {w : List ℕ} {c : Cursor} → OfLevel level w → (level ≡ 1 → ⊥) → PolarReached 2 w c → PolarReached (min 2 level) w c
-level-two {level} {w} {c} a f r = let e : min 2 level ≡ 2 = omega (arith, a .some) in subst (λ (l : ℕ). PolarReached l w c) (sym e) r
+  -- its answer is the whole reading's
+  pub answers : {n : Bool} {a : Answer Cell} → a ≡ polarAnswer level (polarReading c) → c .north ≡ n → a ≡ laterRead level (pole n) (planeIn spaced level w)
+  answers {n} e q =
+      let v = planeIn spaced level w in
+      let z : min 10 level ≡ level = omega (arith, o .most) in
+      let m : polarReading c ≡ soFar n level v = r .means ∙ rw (z, q) refl in
+      e ∙ ap (polarAnswer level) m ∙ rest-is level n v

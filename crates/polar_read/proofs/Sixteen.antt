@@ -2,24 +2,27 @@
 -- Assumes nothing.
 use mathlib.Core.Path.{_≡_, refl, sym, _∙_, ap}
 use mathlib.Core.Bool.{Bool, true, false, cond}
-use mathlib.Core.List.{List}
-use Prim.Native.Nat.{ℕ, _+_, _-_, _*_, _/_, _≤_, _<_}
+use mathlib.Core.List.{List, [], _∷_}
+use Prim.Native.Nat.{ℕ, _+_, _-_, _*_, _/_, _≤_, _<_, min}
 use native.Mathlib.Omega.{arith}
 use lib.Dec.{ltb, eqb, leb}
 use lib.ListN.{length, getD}
-use borrow.Author.Tests.{lt-ltb, le-ltb, leb-true, eqb-true}
+use borrow.Author.Tests.{lt-ltb, le-ltb, ltb-true, leb-true, eqb-true}
 use Rattle.grid.specs.declared.PolarCell.{PolarCell}
 use Rattle.grid.specs.declared.Split.{Split}
 use Rattle.grid.specs.Units.{TURN, HALF, QUARTER}
 use Rattle.grid.specs.Characters.{digitOf}
-use Rattle.grid.specs.Tree.{Read, ok, bad, guard, follow}
+use Rattle.grid.specs.Tree.{ok, shift, follow}
 use Rattle.grid.specs.Splits.{first, second, polarCellAt}
-use Rattle.grid.specs.Plane.{Node, pole, SIXTH, polarWidth, polarHeight, beltBox, polarNode}
+use Rattle.grid.specs.Plane.{pole, SIXTH, polarWidth, polarHeight, beltBox, polarNode, poleChild}
 use Rattle.grid.specs.inner.Roads.{DigitBelow}
+use Rattle.grid.specs.inner.Standing.{levelPlace, lengthIn, planeIn}
 use Rattle.grid.proofs.Cut.{clash, below}
+use Rattle.grid.proofs.Lists.{map-two}
+use Rattle.grid.proofs.Standing.{level-room}
 use Rattle.polar_read.specs.declared.Cursor.{Cursor}
-use Rattle.polar_read.specs.inner.Reading.{startOf, HasRead, soFar, PolarReached}
-use Rattle.polar_read.proofs.Step.{two-digits, shift-guard}
+use Rattle.polar_read.specs.inner.Reading.{startOf, HasRead, namedBy, namedIn, namedRead, soFar, PolarReached}
+use Rattle.polar_read.specs.inner.Room.{OfLevel}
 use Rattle.polar_read.proofs.SoFar.{so-far-on}
 
 -- the cursor of the polar cell k, each of its numbers chosen by itself
@@ -65,26 +68,52 @@ first-level : (n : Bool) (w : List ℕ) → soFar n 1 w ≡ ok (pole n)
 unfolding soFar follow
 first-level n w = refl
 
--- the cursor of level 2
-reached : (n : Bool) (w : List ℕ) {r : Read Node} {c : Cursor} → r ≡ soFar n 2 w → HasRead n (second .length) r c → PolarReached 2 w c × (c .north ≡ n)
-reached n w e t =
-    (record { means = t .means ∙ e ∙ ap (λ (b : Bool). soFar b 2 w) (sym (t .sided)); placed = t .placed; sided = refl; round = t .round }, t .sided)
+module _ (spaced : Bool) {s : Split} (u : s ≡ second) {at : ℕ} (z : at ≡ levelPlace spaced 1 s) where
+  -- where they stand
+  pub second-place : at ≡ levelPlace spaced 1 second
+  second-place = z ∙ ap (levelPlace spaced 1) u
 
-module _ (n : Bool) (w : List ℕ) {at a : ℕ} (z : at ≡ first .length) (l : second .length ≤ length w) (ea : DigitBelow 10 (getD w at 0) a) where
-  both : soFar n 2 w ≡ guard at (ltb (digitOf (getD w at 0)) 4) (guard (at + 1) (ltb (digitOf (getD w (at + 1) 0)) 4) (ok (polarNode n (4 * digitOf (getD w at 0) + digitOf (getD w (at + 1) 0)))))
-  both = rw z (so-far-on n 1 w (omega arith) (omega arith) (first-level n w) ∙ rw (two-digits w 4 l, shift-guard, shift-guard) refl)
+  -- what tells their digits tells what they name
+  module _ (w : List ℕ) {a b : ℕ} (ea : DigitBelow 10 (getD w at 0) a) (eb : DigitBelow 10 (getD w (at + 1) 0) b) where
+    pub named-first : 4 ≤ a → 16 ≡ namedIn spaced w
+    unfolding namedIn
+    named-first h = rw (← second-place, le-ltb (digitOf (getD w at 0)) 4 (omega (arith, ea .tells))) refl
 
-  pub second-first : {c : Cursor} → 4 ≤ a → HasRead n (second .length) (bad at) c → PolarReached 2 w c × (c .north ≡ n)
-  second-first h t = reached n w (sym (both ∙ rw (le-ltb (digitOf (getD w at 0)) 4 (omega (arith, ea .tells))) refl)) t
+    pub named-second : a < 4 → 4 ≤ b → 17 ≡ namedIn spaced w
+    unfolding namedIn
+    named-second h l = rw (← second-place, lt-ltb (digitOf (getD w at 0)) 4 (omega (arith, ea .tells)), le-ltb (digitOf (getD w (at + 1) 0)) 4 (omega (arith, eb .tells))) refl
 
-  module _ {b : ℕ} (eb : DigitBelow 10 (getD w (at + 1) 0) b) (h : a < 4) where
-    fa : a ≡ digitOf (getD w at 0)
-    fa = omega (arith, ea .tells)
-
-    pub second-second : {c : Cursor} → 4 ≤ b → HasRead n (second .length) (bad (at + 1)) c → PolarReached 2 w c × (c .north ≡ n)
-    second-second i t = reached n w (sym (both ∙ rw (← fa, lt-ltb a 4 h, le-ltb (digitOf (getD w (at + 1) 0)) 4 (omega (arith, eb .tells))) refl)) t
-
-    pub second-both : {c : Cursor} → b < 4 → HasRead n (second .length) (ok (polarNode n (4 * a + b))) c → PolarReached 2 w c × (c .north ≡ n)
-    second-both i t =
+    pub named-both : a < 4 → b < 4 → 4 * a + b ≡ namedIn spaced w
+    unfolding namedIn
+    named-both h l =
+        let fa : a ≡ digitOf (getD w at 0) = omega (arith, ea .tells) in
         let fb : b ≡ digitOf (getD w (at + 1) 0) = omega (arith, eb .tells) in
-        reached n w (sym (both ∙ rw (← fa, ← fb, lt-ltb a 4 h, lt-ltb b 4 i) refl)) t
+        rw (← second-place, ← fa, ← fb, lt-ltb a 4 h, lt-ltb b 4 l) refl
+
+-- what two digits name is the grid's reading of them
+named-child : (n : Bool) (i j : ℕ) → namedRead n (namedBy i j) ≡ shift (first .length) (poleChild n (i ∷ j ∷ []))
+named-child n i j = go (ltb i 4) refl (ltb j 4) refl
+  where
+    go : (p : Bool) → ltb i 4 ≡ p → (q : Bool) → ltb j 4 ≡ q → namedRead n (namedBy i j) ≡ shift (first .length) (poleChild n (i ∷ j ∷ []))
+    go true e true f =
+        let x : i < 4 = ltb-true i 4 e in
+        let y : j < 4 = ltb-true j 4 f in
+        rw (e, f, lt-ltb (4 * i + j) 16 (omega arith)) refl
+    go true e false f = rw (e, f) refl
+    go false e q f = rw e refl
+
+module _ {spaced : Bool} {level : ℕ} {w : List ℕ} (o : OfLevel spaced level w) (l : level ≡ 1 → ⊥) where
+  -- a code of a finer level than 1 has the characters of level 2
+  pub has-second : levelPlace spaced 1 second + 2 ≤ length w
+  has-second = let g : levelPlace spaced 1 second + 2 ≤ lengthIn spaced level = level-room spaced level 1 (omega (arith, o .some)) (o .most) in rw (o .long) g
+
+  -- the cursor that has read what they name has read level 2
+  pub level-two : {n : Bool} {k : ℕ} {c : Cursor} → k ≡ namedIn spaced w → HasRead n (second .length) (namedRead n k) c → PolarReached (min 2 level) (planeIn spaced level w) c
+  unfolding namedIn
+  level-two {n} {k} {c} e t =
+      let z : min 2 level ≡ 2 = omega (arith, o .some) in
+      let at = levelPlace spaced 1 second in
+      let m : soFar n 2 (planeIn spaced level w) ≡ namedRead n (namedIn spaced w) =
+      so-far-on o n 1 (omega arith) (omega (arith, o .some)) (first-level n _)
+      ∙ rw (map-two digitOf w at has-second) (sym (named-child n (digitOf (getD w at 0)) (digitOf (getD w (at + 1) 0)))) in
+      rw z (record { means = t .means ∙ rw (e, t .sided) (sym m); placed = t .placed; sided = refl; round = t .round })

@@ -2,30 +2,23 @@
 -- Assumes nothing.
 use mathlib.Core.Path.{_≡_, refl, sym, _∙_, ap}
 use mathlib.Core.Bool.{Bool, true, false}
-use mathlib.Core.List.{List, [], _∷_, map}
+use mathlib.Core.List.{List, [], _∷_}
 use Prim.Native.Nat.{ℕ, _+_, _-_, _*_, _/_, _%_, _≤_, _<_, min}
 use native.Mathlib.Nat.{add-zero}
 use native.Mathlib.Omega.{arith}
-use lib.Dec.{ltb, eqb}
-use lib.ListN.{length, getD, take, drop}
+use lib.Dec.{ltb}
+use lib.ListN.{getD}
 use borrow.Author.Tests.{le-ltb, lt-ltb, ltb-true, ltb-false, ne-eqb}
 use Rattle.grid.specs.declared.Split.{Split}
 use Rattle.grid.specs.Characters.{digitOf}
 use Rattle.grid.specs.Tree.{Read, bad, guard, shift}
 use Rattle.grid.specs.Plane.{readAs, formOf, childOf, nearPole}
 use Rattle.grid.specs.inner.Roads.{DigitBelow}
-use Rattle.grid.proofs.Lists.{take-map, drop-map, map-one, map-two}
+use Rattle.grid.specs.inner.Standing.{levelPlace}
+use Rattle.grid.proofs.Lists.{map-one, map-two}
 use Rattle.polar_read.specs.declared.Cursor.{Cursor}
-use Rattle.polar_read.specs.inner.Reading.{nodeOf, frameOf, columnsOf, divided, polarChild, settledOf, polarStep}
-use Rattle.polar_read.specs.inner.Room.{PolarDigits}
-
--- ---- the digits of a level
-
-pub one-digit : (w : List ℕ) (at : ℕ) → at + 1 ≤ length w → take 1 (drop at (map digitOf w)) ≡ digitOf (getD w at 0) ∷ []
-one-digit w at h = rw (drop-map digitOf at w, take-map digitOf 1 (drop at w)) (map-one digitOf w at h)
-
-pub two-digits : (w : List ℕ) (at : ℕ) → at + 2 ≤ length w → take 2 (drop at (map digitOf w)) ≡ digitOf (getD w at 0) ∷ digitOf (getD w (at + 1) 0) ∷ []
-two-digits w at h = rw (drop-map digitOf at w, take-map digitOf 2 (drop at w)) (map-two digitOf w at h)
+use Rattle.polar_read.specs.inner.Reading.{nodeOf, frameOf, columnsOf, divided, polarChild, settledOf, levelAmong, polarStep}
+use Rattle.polar_read.specs.inner.Room.{HasLevel, PolarDigits, PolarRoom}
 
 -- ---- the grid's division, seen from the cursor
 
@@ -43,7 +36,7 @@ child-as c s d = go (c .cap) refl
     go true p = rw p refl
     go false p = rw (p, near c) refl
 
-pub shift-guard : {A : Type 0} (at p : ℕ) (b : Bool) (r : Read A) → shift at (guard p b r) ≡ guard (at + p) b (shift at r)
+shift-guard : {A : Type 0} (at p : ℕ) (b : Bool) (r : Read A) → shift at (guard p b r) ≡ guard (at + p) b (shift at r)
 shift-guard at p true r = refl
 shift-guard at p false r = refl
 
@@ -80,36 +73,42 @@ columns-most c s e d = rw e (go (c .cap) refl)
     go true p = rw p (d .ring)
     go false p = rw p (d .columns)
 
-module _ (c : Cursor) (s : Split) (w : List ℕ) {columns : ℕ} (e : columns ≡ columnsOf c s) {at : ℕ} (z : at ≡ c .place) where
-  step-two : s .characters ≡ 2 → c .place + 2 ≤ length w
-      → polarStep c s w ≡ guard at (ltb (digitOf (getD w at 0)) columns) (settledOf c s (digitOf (getD w at 0)) (digitOf (getD w (at + 1) 0)) (at + 1))
+-- ---- two characters: the first is no column; or both are read
+
+module _ {c : Cursor} {s : Split} (r : PolarRoom c s) {spaced : Bool} {k : ℕ} {w : List ℕ} (h : HasLevel spaced k s 2 w) {columns : ℕ} (e : columns ≡ columnsOf c s) {at : ℕ} (z : at ≡ levelPlace spaced k s) where
+  step-two : polarStep c s (levelAmong spaced k s w)
+      ≡ guard (s .length - 2) (ltb (digitOf (getD w at 0)) columns) (settledOf c s (digitOf (getD w at 0)) (digitOf (getD w (at + 1) 0)) (s .length - 1))
   unfolding polarStep
-  step-two n l = rw (child-as, n, ← z, two-digits w at (omega arith), ← e, shift-guard, shift-guard, add-zero) refl
+  step-two =
+      let i : s .length - 2 ≡ c .place + 0 = omega (arith, r .next, h .size) in
+      let j : s .length - 1 ≡ c .place + 1 = omega (arith, r .next, h .size) in
+      rw (i, j, child-as, ← z, h .size, map-two digitOf w at (omega (arith, h .room)), ← e, shift-guard, shift-guard) refl
 
-  -- two characters: the first is no column; or both are read
-  pub two-no : {a : ℕ} → s .characters ≡ 2 → c .place + 2 ≤ length w → DigitBelow columns (getD w at 0) a → columns ≤ a → bad at ≡ polarStep c s w
-  two-no {a} n l ea h = rw (step-two n l, le-ltb (digitOf (getD w at 0)) columns (omega (arith, ea .tells))) refl
+  pub two-no : {a : ℕ} → DigitBelow columns (getD w at 0) a → columns ≤ a → bad (s .length - 2) ≡ polarStep c s (levelAmong spaced k s w)
+  two-no {a} ea l = rw (step-two, le-ltb (digitOf (getD w at 0)) columns (omega (arith, ea .tells))) refl
 
-  pub two-on : {a b : ℕ} → s .characters ≡ 2 → c .place + 2 ≤ length w → DigitBelow columns (getD w at 0) a → DigitBelow (s .inward) (getD w (at + 1) 0) b → a < columns
-      → settledOf c s a b (at + 1) ≡ polarStep c s w
-  two-on {a} n l ea eb h =
+  pub two-on : {a b : ℕ} → DigitBelow columns (getD w at 0) a → DigitBelow (s .inward) (getD w (at + 1) 0) b → a < columns
+      → settledOf c s a b (s .length - 1) ≡ polarStep c s (levelAmong spaced k s w)
+  two-on {a} ea eb l =
       let f : a ≡ digitOf (getD w at 0) = omega (arith, ea .tells) in
-      settled-told c s (at + 1) (λ v. a) (λ v. v) eb (λ v k i. k) ∙ rw (step-two n l, ← f, lt-ltb a columns h) refl
+      settled-told c s (s .length - 1) (λ v. a) (λ v. v) eb (λ v i j. i) ∙ rw (step-two, ← f, lt-ltb a columns l) refl
 
-  -- one character, in two columns or in more
-  pub one-quad : {a : ℕ} → PolarDigits s → s .characters ≡ 1 → c .place + 1 ≤ length w → DigitBelow 10 (getD w at 0) a → columns ≡ 2
-      → settledOf c s (a % 2) (a / 2) at ≡ polarStep c s w
-  unfolding polarStep
-  one-quad {a} d n l ea k =
-      let k2 : columnsOf c s ≡ 2 = sym e ∙ k in
-      settled-told c s at (λ v. v % 2) (λ v. v / 2) ea (λ v i j. omega (arith, d .inward))
-      ∙ rw (child-as, n, ← z, one-digit w at (omega arith), k2, shift-guard, add-zero) refl
+-- ---- one character, in two columns or in more
 
-  pub one-trio : {a i j : ℕ} → PolarDigits s → s .characters ≡ 1 → c .place + 1 ≤ length w → DigitBelow 10 (getD w at 0) a → (columns ≡ 2 → ⊥) → a - 1 ≡ i → min a 1 ≡ j
-      → settledOf c s i j at ≡ polarStep c s w
+module _ {c : Cursor} {s : Split} (r : PolarRoom c s) {spaced : Bool} {k : ℕ} {w : List ℕ} (h : HasLevel spaced k s 1 w) {columns : ℕ} (e : columns ≡ columnsOf c s) {at : ℕ} (z : at ≡ levelPlace spaced k s) {a : ℕ} (ea : DigitBelow 10 (getD w at 0) a) where
+  step-one : polarStep c s (levelAmong spaced k s w) ≡ shift (s .length - 1) (readAs (formOf 1 columns) (c .cap) (divided c s) (polarChild c s) (digitOf (getD w at 0) ∷ []))
   unfolding polarStep
-  one-trio {a} {i} {j} d n l ea k ei ej =
-      let k2 : eqb (columnsOf c s) 2 ≡ false = ne-eqb (columnsOf c s) 2 (λ z. k (e ∙ z)) in
-      let t = settled-told c s at (λ v. v - 1) (λ v. min v 1) ea (λ v x y. absurd (omega (arith, columns-most c s refl d))) in
-      let u : settledOf c s i j at ≡ settledOf c s (a - 1) (min a 1) at = rw (ei, ej) refl in
-      u ∙ t ∙ rw (child-as, n, ← z, one-digit w at (omega arith), k2, shift-guard, add-zero) refl
+  step-one =
+      let i : s .length - 1 ≡ c .place = omega (arith, r .next, h .size) in
+      rw (i, child-as, ← z, h .size, map-one digitOf w at (omega (arith, h .room)), ← e) refl
+
+  pub one-quad : columns ≡ 2 → settledOf c s (a % 2) (a / 2) (s .length - 1) ≡ polarStep c s (levelAmong spaced k s w)
+  one-quad q =
+      settled-told c s (s .length - 1) (λ v. v % 2) (λ v. v / 2) ea (λ v i j. omega (arith, r .digits .inward, h .size))
+      ∙ rw (step-one, q, shift-guard, add-zero) refl
+
+  pub one-trio : {i j : ℕ} → (columns ≡ 2 → ⊥) → a - 1 ≡ i → min a 1 ≡ j → settledOf c s i j (s .length - 1) ≡ polarStep c s (levelAmong spaced k s w)
+  one-trio {i} {j} n ei ej =
+      let u : settledOf c s i j (s .length - 1) ≡ settledOf c s (a - 1) (min a 1) (s .length - 1) = rw (ei, ej) refl in
+      u ∙ settled-told c s (s .length - 1) (λ v. v - 1) (λ v. min v 1) ea (λ v x y. absurd (omega (arith, columns-most c s refl (r .digits), h .size)))
+      ∙ rw (step-one, ne-eqb columns 2 n, shift-guard, add-zero) refl

@@ -1,9 +1,10 @@
-// Reading a polar plane code (document 01, "The poles") on from its first four characters, N000 or S000.
+// Reading a polar plane code (document 01, "The poles") on from its first four characters, N000 or S000; or that of a space code,
+// whose plane characters are read where they stand in it.
 // The reading place is a cursor, a value: each level read hands back the next one.
 // What a cursor means, and what was read, stands in specs/inner/Reading.antt; what the steps ask for in specs/inner/Room.antt.
 
 ghost use mathlib.Core.Path.{_≡_};
-ghost use mathlib.Core.Bool.{true, cond};
+ghost use mathlib.Core.Bool.{true, false, cond};
 ghost use Prim.Native.Nat.{ℕ, _+_, _≤_, _<_, min};
 ghost use lib.ListN.{length};
 ghost use Rattle.grid.specs.Units.{TURN, QUARTER};
@@ -12,9 +13,10 @@ ghost use Rattle.grid.specs.Tree.{ok, bad};
 ghost use Rattle.grid.specs.Answers.{planeRead};
 ghost use Rattle.grid.specs.Plane.{pole, allowed, longitudeAt, leastFromPole, cellAt, polarNode};
 ghost use Rattle.grid.specs.inner.Roads.{laterRead};
+ghost use Rattle.grid.specs.inner.Standing.{levelPlace, planeIn};
 ghost use Rattle.polar_read.specs.inner.Reading.{nodeOf, polarReading, startOf, Round, HasRead, Moved, PolarReached, polarAnswer};
-ghost use Rattle.polar_read.specs.inner.Reading.{columnsOf, inmostOf, divided, polarChild, settledOf, polarStep};
-ghost use Rattle.polar_read.specs.inner.Room.{OfLevel, Whole, PolarRoom, ChildRoom, PolarReady};
+ghost use Rattle.polar_read.specs.inner.Reading.{columnsOf, inmostOf, divided, polarChild, settledOf, levelAmong, polarStep, namedIn, namedRead};
+ghost use Rattle.polar_read.specs.inner.Room.{OfLevel, HasLevel, Whole, PolarRoom, ChildRoom, PolarReady};
 use grid::Cell;
 use grid::PlaneRead;
 use grid::Split;
@@ -51,6 +53,23 @@ fn pick(first: bool, a: u32, b: u32) -> u32
     ensures { λ r. ⌜ r ≡ cond first a b ⌝ }
 {
     if first { a } else { b }
+}
+
+// The polar cell that two digits below 4 name; 16 where the first is none, 17 where the second is none.
+fn named(spaced: bool, code: &[u8]) -> u32
+    requires { ⌜ levelPlace spaced 1 second + 2 ≤ length (now code) ⌝ }
+    ensures { λ r. ⌜ r ≡ namedIn spaced (now (code .entry)) ⌝ }
+{
+    let at = grid::level_place(spaced, 1, grid::split_of(1));
+    let a = grid::decimal_value(code[at]);
+    let b = grid::decimal_value(code[at + 1]);
+    if 4 <= a {
+        return 16;
+    }
+    if 4 <= b {
+        return 17;
+    }
+    4 * a + b
 }
 
 // The reading place of a polar code, and the cell read so far.
@@ -130,21 +149,15 @@ impl Cursor {
         }
     }
 
-    // Level 2: two digits below 4 name one of the sixteen polar cells.
-    fn second(self, code: &[u8]) -> Cursor
-        requires { ⌜ Round self × (self .place ≡ first .length) × (second .length ≤ length (now code)) ⌝ }
-        ensures { λ r. ⌜ PolarReached 2 (now (code .entry)) r × (r .north ≡ self .north) ⌝ }
+    // Level 2: the polar cell k, or the place of the digit that is not allowed.
+    fn second(self, k: u32) -> Cursor
+        requires { ⌜ Round self × (self .place ≡ first .length) ⌝ }
+        ensures { λ r. ⌜ HasRead (self .north) (second .length) (namedRead (self .north) k) r ⌝ }
     {
-        let at = self.place;
-        let a = grid::decimal_value(code[at]);
-        if 4 <= a {
-            return self.stopped(at);
+        if 16 <= k {
+            return self.stopped(self.place + (k - 16) as usize);
         }
-        let b = grid::decimal_value(code[at + 1]);
-        if 4 <= b {
-            return self.stopped(at + 1);
-        }
-        self.polar(4 * a + b)
+        self.polar(k)
     }
 
     // Into how many columns the cell divides.
@@ -211,28 +224,28 @@ impl Cursor {
     }
 
     // A level of two characters: column, then row.
-    fn two(self, s: Split, code: &[u8]) -> Cursor
-        requires { ⌜ PolarRoom self s × (s .characters ≡ 2) × (self .place + 2 ≤ length (now code)) ⌝ }
-        ensures { λ m. ⌜ Moved self s (polarStep self s (now (code .entry))) m ⌝ }
+    fn two(self, spaced: bool, k: u32, s: Split, code: &[u8]) -> Cursor
+        requires { ⌜ PolarRoom self s × HasLevel spaced k s 2 (now code) ⌝ }
+        ensures { λ m. ⌜ Moved self s (polarStep self s (levelAmong spaced k s (now (code .entry)))) m ⌝ }
     {
-        let at = s.length - 2;
+        let at = grid::level_place(spaced, k, s);
         let columns = self.columns(s);
         let a = grid::digit_below(columns, code[at]);
         if columns <= a {
-            return self.stopped(at);
+            return self.stopped(s.length - 2);
         }
         let b = grid::digit_below(s.inward, code[at + 1]);
-        self.settled(s, columns, a, b, at + 1)
+        self.settled(s, columns, a, b, s.length - 1)
     }
 
     // A level of one character: 2·row + column; in a cap of three columns row + column.
-    fn one(self, s: Split, code: &[u8]) -> Cursor
-        requires { ⌜ PolarRoom self s × (s .characters ≡ 1) × (self .place + 1 ≤ length (now code)) ⌝ }
-        ensures { λ m. ⌜ Moved self s (polarStep self s (now (code .entry))) m ⌝ }
+    fn one(self, spaced: bool, k: u32, s: Split, code: &[u8]) -> Cursor
+        requires { ⌜ PolarRoom self s × HasLevel spaced k s 1 (now code) ⌝ }
+        ensures { λ m. ⌜ Moved self s (polarStep self s (levelAmong spaced k s (now (code .entry)))) m ⌝ }
     {
         let at = s.length - 1;
         let columns = self.columns(s);
-        let a = grid::decimal_value(code[at]);
+        let a = grid::decimal_value(code[grid::level_place(spaced, k, s)]);
         if columns == 2 {
             return self.settled(s, columns, a % 2, a / 2, at);
         }
@@ -243,27 +256,35 @@ impl Cursor {
     }
 
     // Level k + 1, of two characters, where the code has it.
-    fn pair(self, level: u32, k: u32, s: Split, code: &[u8]) -> Cursor
-        requires { ⌜ PolarReady level k s 2 (now code) self ⌝ }
-        ensures { λ r. ⌜ PolarReached (min (k + 1) level) (now (code .entry)) r × (r .north ≡ self .north) ⌝ }
+    fn pair(self, spaced: bool, level: u32, k: u32, s: Split, code: &[u8]) -> Cursor
+        requires { ⌜ PolarReady spaced level k s 2 (now code) self ⌝ }
+        ensures { λ r. ⌜ PolarReached (min (k + 1) level) (planeIn spaced level (now (code .entry))) r × (r .north ≡ self .north) ⌝ }
     {
         if level <= k {
             return self;
         }
         let good = self.good;
-        if good { self.two(s, code) } else { self }
+        if good {
+            self.two(spaced, k, s, code)
+        } else {
+            self
+        }
     }
 
     // Level k + 1, of one character, where the code has it.
-    fn single(self, level: u32, k: u32, s: Split, code: &[u8]) -> Cursor
-        requires { ⌜ PolarReady level k s 1 (now code) self ⌝ }
-        ensures { λ r. ⌜ PolarReached (min (k + 1) level) (now (code .entry)) r × (r .north ≡ self .north) ⌝ }
+    fn single(self, spaced: bool, level: u32, k: u32, s: Split, code: &[u8]) -> Cursor
+        requires { ⌜ PolarReady spaced level k s 1 (now code) self ⌝ }
+        ensures { λ r. ⌜ PolarReached (min (k + 1) level) (planeIn spaced level (now (code .entry))) r × (r .north ≡ self .north) ⌝ }
     {
         if level <= k {
             return self;
         }
         let good = self.good;
-        if good { self.one(s, code) } else { self }
+        if good {
+            self.one(spaced, k, s, code)
+        } else {
+            self
+        }
     }
 
     // The cell, as a reader hands it back; a cap is a disc cell that goes all round.
@@ -303,7 +324,7 @@ impl Cursor {
 
 // The rest of a polar plane code, after its first four characters; the level is the one that its length says.
 pub fn rest(level: u32, north: bool, code: &[u8]) -> PlaneRead
-    requires { ⌜ OfLevel level (now code) ⌝ }
+    requires { ⌜ OfLevel false level (now code) ⌝ }
     ensures { λ r. ⌜ planeRead r ≡ laterRead level (pole north) (now (code .entry)) ⌝ }
 {
     let start = Cursor::start(north);
@@ -311,14 +332,36 @@ pub fn rest(level: u32, north: bool, code: &[u8]) -> PlaneRead
         return start.answer(level);
     }
     start
-        .second(code)
-        .single(level, 2, grid::split_of(2), code)
-        .pair(level, 3, grid::split_of(3), code)
-        .pair(level, 4, grid::split_of(4), code)
-        .single(level, 5, grid::split_of(5), code)
-        .pair(level, 6, grid::split_of(6), code)
-        .pair(level, 7, grid::split_of(7), code)
-        .pair(level, 8, grid::split_of(8), code)
-        .pair(level, 9, grid::split_of(9), code)
+        .second(named(false, code))
+        .single(false, level, 2, grid::split_of(2), code)
+        .pair(false, level, 3, grid::split_of(3), code)
+        .pair(false, level, 4, grid::split_of(4), code)
+        .single(false, level, 5, grid::split_of(5), code)
+        .pair(false, level, 6, grid::split_of(6), code)
+        .pair(false, level, 7, grid::split_of(7), code)
+        .pair(false, level, 8, grid::split_of(8), code)
+        .pair(false, level, 9, grid::split_of(9), code)
+        .answer(level)
+}
+
+// The same of the plane characters of a space code, read where they stand; a bad one's place is counted among them.
+pub fn rest_in_space(level: u32, north: bool, code: &[u8]) -> PlaneRead
+    requires { ⌜ OfLevel true level (now code) ⌝ }
+    ensures { λ r. ⌜ planeRead r ≡ laterRead level (pole north) (planeIn true level (now (code .entry))) ⌝ }
+{
+    let start = Cursor::start(north);
+    if level == 1 {
+        return start.answer(level);
+    }
+    start
+        .second(named(true, code))
+        .single(true, level, 2, grid::split_of(2), code)
+        .pair(true, level, 3, grid::split_of(3), code)
+        .pair(true, level, 4, grid::split_of(4), code)
+        .single(true, level, 5, grid::split_of(5), code)
+        .pair(true, level, 6, grid::split_of(6), code)
+        .pair(true, level, 7, grid::split_of(7), code)
+        .pair(true, level, 8, grid::split_of(8), code)
+        .pair(true, level, 9, grid::split_of(9), code)
         .answer(level)
 }

@@ -1,13 +1,16 @@
 // The writer of polar plane codes: those of a latitude index of 648,806,400 or more (document 01, "The poles").
 // A square is carried down level by level as a Spot, its place in the cell reached so far. A cell that is no cap is seen as wide as
-// it is high, in parts as wide as need be, so that its columns and rows are found alike and every divisor is a constant.
+// it is high, in parts as wide as need be, so that its columns and rows are found alike and every divisor is a constant. Each step takes the place of
+// its characters from `grid`, in a plane code or in a space code.
 
 ghost use mathlib.Core.Path.{_≡_};
+ghost use mathlib.Core.Bool.{true, false};
 ghost use Prim.Native.Nat.{_+_, _/_, _≤_, _<_};
 ghost use lib.ListN.{length};
 ghost use lib.Seq.{sets};
 ghost use Rattle.grid.specs.Units.{TURN, HALF, DISC, unit, eastward};
 ghost use Rattle.grid.specs.inner.Roads.{squareOf};
+ghost use Rattle.grid.specs.inner.Standing.{zonePlace, planePlace, standsAt, spread};
 ghost use Rattle.grid.specs.Splits.{second, polarCellAt};
 ghost use Rattle.grid.specs.Plane.{SIXTH, polarHeight, beltBox, codeOf};
 ghost use Rattle.polar_write.specs.inner.Spots.{firstChars, capStep, spotStep, SpotDivides, SpotReady, Gone, Polar, Lies, LiesInColumn, Begun, SpotStarted, PolarWritable};
@@ -94,24 +97,25 @@ fn divide(s: Split, spot: Spot) -> Step
 }
 
 // Goes down place k of the table, from 2 on: level k + 1, written where the code goes so far.
-fn next(level: u32, k: u32, s: Split, spot: Spot, line: &mut [u8]) -> Spot
-    requires { ⌜ SpotReady level k s spot (now line) ⌝ }
-    ensures { λ r. ⌜ Gone level k s spot (now (line .entry)) (now (line .exit)) r ⌝ }
+fn next(spaced: bool, level: u32, k: u32, s: Split, spot: Spot, line: &mut [u8]) -> Spot
+    requires { ⌜ SpotReady spaced level k s spot (now line) ⌝ }
+    ensures { λ r. ⌜ Gone spaced level k s spot (now (line .entry)) (now (line .exit)) r ⌝ }
 {
     let d = divide(s, spot);
-    grid::put_digits(level, k, s, d.digits, line, s.length - s.characters);
+    grid::put_digits(level, k, s, d.digits, line, grid::level_place(spaced, k, s));
     d.rest
 }
 
 // Level 1: N000 or S000.
-fn put_first(north: bool, line: &mut [u8])
-    requires { ⌜ 4 ≤ length (now line) ⌝ }
-    ensures { λ _. ⌜ now (line .exit) ≡ sets (now (line .entry)) 0 (firstChars north) ⌝ }
+fn put_first(spaced: bool, north: bool, line: &mut [u8])
+    requires { ⌜ zonePlace spaced + 3 ≤ length (now line) ⌝ }
+    ensures { λ _. ⌜ now (line .exit) ≡ spread (standsAt spaced) 0 (firstChars north) (now (line .entry)) ⌝ }
 {
+    let at = grid::zone_place(spaced);
     line[0] = grid::hemisphere(north);
-    line[1] = b'0';
-    line[2] = b'0';
-    line[3] = b'0';
+    line[at] = b'0';
+    line[at + 1] = b'0';
+    line[at + 2] = b'0';
 }
 
 // The longitude taken eastward.
@@ -290,29 +294,45 @@ fn begin(p: Place) -> Step
 }
 
 // Writes the first two levels, as far as the code goes.
-fn start(level: u32, p: Place, line: &mut [u8]) -> Spot
-    requires { ⌜ PolarWritable level p (now line) ⌝ }
-    ensures { λ r. ⌜ SpotStarted level p (now (line .entry)) (now (line .exit)) r ⌝ }
+fn start(spaced: bool, level: u32, p: Place, line: &mut [u8]) -> Spot
+    requires { ⌜ PolarWritable spaced level p (now line) ⌝ }
+    ensures { λ r. ⌜ SpotStarted spaced level p (now (line .entry)) (now (line .exit)) r ⌝ }
 {
-    put_first(p.north, line);
+    put_first(spaced, p.north, line);
     let d = begin(p);
     let s = grid::split_of(1);
-    grid::put_digits(level, 1, s, d.digits, line, s.length - s.characters);
+    grid::put_digits(level, 1, s, d.digits, line, grid::level_place(spaced, 1, s));
     d.rest
 }
 
 // The code of a level for a polar place, from the line's beginning on; the bytes after it stay.
 pub fn put(level: u32, p: Place, line: &mut [u8])
-    requires { ⌜ PolarWritable level p (now line) ⌝ }
+    requires { ⌜ PolarWritable false level p (now line) ⌝ }
     ensures { λ _. ⌜ now (line .exit) ≡ sets (now (line .entry)) 0 (codeOf level (squareOf p)) ⌝ }
 {
-    let a = start(level, p, line);
-    let b = next(level, 2, grid::split_of(2), a, line);
-    let c = next(level, 3, grid::split_of(3), b, line);
-    let d = next(level, 4, grid::split_of(4), c, line);
-    let e = next(level, 5, grid::split_of(5), d, line);
-    let f = next(level, 6, grid::split_of(6), e, line);
-    let g = next(level, 7, grid::split_of(7), f, line);
-    let h = next(level, 8, grid::split_of(8), g, line);
-    next(level, 9, grid::split_of(9), h, line);
+    let a = start(false, level, p, line);
+    let b = next(false, level, 2, grid::split_of(2), a, line);
+    let c = next(false, level, 3, grid::split_of(3), b, line);
+    let d = next(false, level, 4, grid::split_of(4), c, line);
+    let e = next(false, level, 5, grid::split_of(5), d, line);
+    let f = next(false, level, 6, grid::split_of(6), e, line);
+    let g = next(false, level, 7, grid::split_of(7), f, line);
+    let h = next(false, level, 8, grid::split_of(8), g, line);
+    next(false, level, 9, grid::split_of(9), h, line);
+}
+
+// The same characters, each at its place in a space code; the bytes between them stay.
+pub fn put_in_space(level: u32, p: Place, line: &mut [u8])
+    requires { ⌜ PolarWritable true level p (now line) ⌝ }
+    ensures { λ _. ⌜ now (line .exit) ≡ spread planePlace 0 (codeOf level (squareOf p)) (now (line .entry)) ⌝ }
+{
+    let a = start(true, level, p, line);
+    let b = next(true, level, 2, grid::split_of(2), a, line);
+    let c = next(true, level, 3, grid::split_of(3), b, line);
+    let d = next(true, level, 4, grid::split_of(4), c, line);
+    let e = next(true, level, 5, grid::split_of(5), d, line);
+    let f = next(true, level, 6, grid::split_of(6), e, line);
+    let g = next(true, level, 7, grid::split_of(7), f, line);
+    let h = next(true, level, 8, grid::split_of(8), g, line);
+    next(true, level, 9, grid::split_of(9), h, line);
 }

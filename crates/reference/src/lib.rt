@@ -314,7 +314,14 @@ fn lay_target(a: Goal, line: &mut [u8], at: usize) -> Written
     ensures { λ r. ⌜ (written r, now (line .exit)) ≡ laid (goalText a) (now (line .entry)) at ⌝ }
 {
     match a {
-        Goal::At(l, p) => plane::lay(l, p, line, at),
+        Goal::At(l, p) => {
+            let n = plane::length_of(l);
+            if grid::room_from(line.len(), at) < n {
+                return Written::Refused(grid::refuse(5));
+            }
+            plane::put(l, p.east, p.north, p.x, &mut line[at..], p.y);
+            Written::Bytes(n)
+        }
         Goal::Refused(r) => Written::Refused(r),
     }
 }

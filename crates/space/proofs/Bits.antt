@@ -15,18 +15,19 @@ use Rattle.grid.specs.Characters.{charOf}
 use Rattle.grid.specs.Plane.{codeOf}
 use Rattle.grid.specs.Layers.{theirs, rise, sign}
 use Rattle.grid.specs.Both.{mix}
+use Rattle.grid.specs.inner.Standing.{heightPlace}
 use Rattle.grid.specs.Space.{spaceCodes, OnGrid, spaceCodeOf}
 use Rattle.grid.proofs.BothLaws.{second-mix, length-mix}
 use Rattle.grid.proofs.Families.{length-codeIn}
 use Rattle.grid.proofs.LayerLaws.{rise-below}
 use Rattle.grid.proofs.Theorems.{theirs-fair, space-sound}
-use Rattle.layers.specs.inner.Steps.{heightDigits}
+use Rattle.layers.specs.inner.Steps.{heightDigits, standing}
 use Rattle.layers.proofs.Radices.{edition-fair}
 use Rattle.layers.proofs.Digits.{direct, height-straight, height-length}
 use Rattle.plane.proofs.Reading.{code-length}
 use Rattle.space.specs.Bits.{twosComplement, bits, bitDigits, heightPlaces}
-use Rattle.space.specs.inner.Weave.{Strand, both-of, parts, strandPlace, weave, seconds}
-use Rattle.space.specs.inner.Parts.{tenStrands, heightPart}
+use Rattle.space.specs.inner.Weave.{Strand, both-of, parts, weave, seconds}
+use Rattle.space.specs.inner.Parts.{tenStrands}
 use Rattle.space.proofs.Weaving.{each-some, counted, some-of}
 use Rattle.space.proofs.Parts.{long-sum, ten, height-same}
 use Rattle.space.proofs.Writing.{code-parts}
@@ -109,8 +110,8 @@ long : (s : Square) (z : ℤ) → OnGrid theirs (s, z) → length (spaceCodeOf t
 unfolding spaceCodeOf spaceCodes space-sound
 long s z o = length-codeIn (spaceCodes theirs) (space-sound theirs theirs-fair) 10 (s, z) o (omega arith) ∙ long-sum true 10 (omega arith) (omega arith)
 
-places-part : (w : List ℕ) → map (λ p. getD w p 0) heightPlaces ≡ heightPart w
-unfolding strandPlace
+places-part : (w : List ℕ) → map (λ p. getD w p 0) heightPlaces ≡ standing 10 w
+unfolding heightPlace
 places-part w = refl
 
 -- each height character of a space code of edition 2 is the field of the layer's 32 bits that annex C.14 names

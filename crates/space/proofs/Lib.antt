@@ -1,7 +1,6 @@
 pub mod Weaving
 pub mod Tables
 pub mod Spreading
-pub mod Taking
 pub mod Parts
 pub mod Reading
 pub mod Writing

@@ -1,21 +1,23 @@
 -- A space code's levels, seen as strands of plane characters and height characters. What is needed of all ten is tested by computing.
 -- Assumes nothing.
 use mathlib.Core.Path.{_≡_, refl, sym, _∙_, ap, subst}
-use mathlib.Core.Bool.{Bool, true, false, cond}
+use mathlib.Core.Bool.{Bool, true, false}
 use mathlib.Core.List.{List, [], _∷_, map}
 use Prim.Native.Nat.{ℕ, zero, suc, _+_, _-_, _≤_, _<_}
 use native.Mathlib.Omega.{arith}
-use lib.Dec.{eqb, ltb}
+use lib.Dec.{eqb}
 use lib.ListN.{length, take, getD}
 use lib.Seq.{ext-getD, getD-take, length-take-le}
-use borrow.Author.Tests.{eqb-true, lt-ltb}
+use borrow.Author.Tests.{eqb-true}
 use Rattle.grid.specs.Units.{Cube}
 use Rattle.grid.specs.Splits.{splits, splitAt}
 use Rattle.grid.specs.Plane.{plane, globe}
 use Rattle.grid.specs.Layers.{product, all, layers}
 use Rattle.grid.specs.Both.{Pair}
 use Rattle.grid.specs.Space.{space, spaceLevels, spaceCodes, spaceLengths, OnGrid}
+use Rattle.grid.specs.inner.Standing.{planePlace, heightPlace, countFrom, planeIn}
 use Rattle.grid.proofs.Cut.{below}
+use Rattle.grid.proofs.Standing.{given-at, given-length}
 use Rattle.grid.proofs.Laws.{total}
 use Rattle.grid.proofs.PlaneLaws.{laws}
 use Rattle.grid.proofs.LayerLaws.{layer-laws}
@@ -23,10 +25,11 @@ use Rattle.grid.proofs.BothLaws.{ones, twos, InBoth, GoodBoth}
 use Rattle.grid.proofs.Theorems.{isEdition, ours-fair, theirs-fair, space-sound}
 use Rattle.layers.specs.Heights.{heightLevels}
 use Rattle.layers.specs.inner.Editions.{radicesOf}
+use Rattle.layers.specs.inner.Steps.{standing}
 use Rattle.space.specs.inner.Weave.{Strand, both-of, parts, strandPlace, firsts, seconds, placeOne, placeTwo}
-use Rattle.space.specs.inner.Parts.{tenStrands, countFrom, planePart, heightPart, planePlace, heightPlace}
+use Rattle.space.specs.inner.Parts.{tenStrands}
 use Rattle.space.proofs.Weaving.{strands, each-some, counted, Sliced, sliced-one, sliced-two, parts-length, part-digit, place-fewer}
-use Rattle.space.proofs.Tables.{length-few, given-at, given-length}
+use Rattle.space.proofs.Tables.{length-few}
 
 -- an edition's layers on either side of the ground, and its levels
 abbrev pub topOf : Bool → ℕ
@@ -131,10 +134,12 @@ module _ (l : ℕ) (C : Counted l) (w : List ℕ) (long : length w ≡ getD spac
       ∙ ap (λ (x : ℕ). getD w x 0) (sym (place-fewer S l tenStrands i r))
       ∙ sym (part-digit S (take l tenStrands) w i (C .some) whole r)))
 
-  pub plane-same : take (splitAt (l - 1) .length) (planePart w) ≡ firsts (take l tenStrands) w
+  pub plane-same : planeIn true l w ≡ firsts (take l tenStrands) w
+  unfolding planePlace strandPlace
   plane-same = same-part sliced-one (splitAt (l - 1) .length) 20 (C .one) (C .few-one)
 
-  pub height-same : take (2 + l) (heightPart w) ≡ seconds (take l tenStrands) w
+  pub height-same : standing l w ≡ seconds (take l tenStrands) w
+  unfolding heightPlace strandPlace
   height-same = same-part sliced-two (2 + l) 12 (C .two) (C .few-two)
 
   pub plane-long : length (firsts (take l tenStrands) w) ≡ splitAt (l - 1) .length
@@ -143,15 +148,15 @@ module _ (l : ℕ) (C : Counted l) (w : List ℕ) (long : length w ≡ getD spac
   pub height-long : length (seconds (take l tenStrands) w) ≡ 2 + l
   height-long = parts-length sliced-two (take l tenStrands) w (C .some) whole ∙ C .two
 
--- where a bad character stands
+-- where a bad character stands: the weaving's places are grid's, each by one computed test
 pub plane-place : (l : ℕ) → Counted l → (p : ℕ) → p < splitAt (l - 1) .length → placeOne (take l tenStrands) p ≡ planePlace p
-unfolding planePlace
+unfolding planePlace strandPlace
 plane-place l C p h =
     place-fewer sliced-one l tenStrands p (subst (λ (x : ℕ). p < x) (sym (C .one)) h)
-    ∙ (let z : placeOne tenStrands p ≡ cond (ltb p 20) (placeOne tenStrands p) 0 = rw (lt-ltb p 20 (omega (arith, C .few-one))) refl in z)
+    ∙ eqb-true _ _ (below (λ p. eqb (placeOne tenStrands p) (planePlace p)) 20 p refl (omega (arith, C .few-one)))
 
 pub height-place : (l : ℕ) → Counted l → (p : ℕ) → p < 2 + l → placeTwo (take l tenStrands) p ≡ heightPlace p
-unfolding heightPlace
+unfolding heightPlace strandPlace
 height-place l C p h =
     place-fewer sliced-two l tenStrands p (subst (λ (x : ℕ). p < x) (sym (C .two)) h)
-    ∙ (let z : placeTwo tenStrands p ≡ cond (ltb p 12) (placeTwo tenStrands p) 0 = rw (lt-ltb p 12 (omega (arith, C .few-two))) refl in z)
+    ∙ eqb-true _ _ (below (λ p. eqb (placeTwo tenStrands p) (heightPlace p)) 12 p refl (omega (arith, C .few-two)))

@@ -9,6 +9,7 @@ use native.Mathlib.Omega.{arith}
 use lib.Dec.{ltb, eqb}
 use lib.IntN.{ℤ}
 use lib.ListN.{length, take, getD, length-map}
+use lib.Seq.{length-take-le}
 use borrow.Author.Tests.{ltb-true, ltb-false, eqb-true}
 use Rattle.grid.specs.declared.Cell.{Cell}
 use Rattle.grid.specs.declared.SpaceCell.{SpaceCell}
@@ -21,7 +22,9 @@ use Rattle.grid.specs.Splits.{splits, splitAt}
 use Rattle.grid.specs.Plane.{Node, globe, plane, planeCodes, cellOf}
 use Rattle.grid.specs.Layers.{ours, Stack, all, part, layers}
 use Rattle.grid.specs.Space.{space, spaceCodes, spaceCellOf, spaceLengths}
-use Rattle.grid.proofs.Cut.{clash, allBelow, below}
+use Rattle.grid.specs.inner.Standing.{planePlace, heightPlace, countFrom, planeIn}
+use Rattle.grid.proofs.Cut.{clash, below}
+use Rattle.grid.proofs.Standing.{given-length}
 use Rattle.grid.proofs.Laws.{total, follow-ends}
 use Rattle.grid.proofs.PlaneLaws.{laws, splits-fit}
 use Rattle.grid.proofs.LayerLaws.{layer-laws}
@@ -32,11 +35,10 @@ use Rattle.layers.specs.inner.Editions.{radicesOf}
 use Rattle.layers.specs.inner.Steps.{standing}
 use Rattle.layers.proofs.Radices.{edition-fair}
 use Rattle.layers.proofs.Inside.{levels-fit, read-inside}
-use Rattle.plane.specs.inner.Lengths.{orZero}
-use Rattle.space.specs.inner.Weave.{Strand, strandPlace, firsts, seconds, placeTwo, together}
-use Rattle.space.specs.inner.Asking.{SpaceRoom}
-use Rattle.space.specs.inner.Parts.{spaceLevelOf, tenStrands, planePart, heightPart, planePlace, heightPlace, earlier, heightsAnswer, joinedAnswer}
-use Rattle.space.proofs.Tables.{heightPlaces}
+use Rattle.plane.specs.inner.Lengths.{orZero, SpaceCode}
+use Rattle.space.specs.inner.Weave.{Strand, firsts, seconds, placeTwo, together}
+use Rattle.space.specs.inner.Parts.{spaceLevelOf, tenStrands, earlier, heightsAnswer, joinedAnswer}
+use Rattle.space.proofs.Tables.{length-at}
 use Rattle.space.proofs.Weaving.{sliced-one, sliced-two, parts-map, follow-woven}
 use Rattle.space.proofs.Parts.{
   topOf,
@@ -75,6 +77,10 @@ leveled n {l} e h = go (placeIn n 1 spaceLengths) refl
         let q : l ≡ k = e ∙ ap orZero p in
         let t = level-length (spaceCodes ours) (space-sound ours ours-fair) n k p in
         subst (Leveled n) (sym q) (record { place = p; low = t .0; high = t .1; long = t .2 ∙ long-sum false k (t .0) (t .1) })
+
+-- and the length of its space codes
+pub spaced : {n l : ℕ} → Leveled n l → SpaceCode l n
+spaced {n} {l} t = record { some = t .low; most = t .high; long = t .long ∙ sym (length-at l (t .low) (t .high)) }
 
 pub read-none : (rs w : List ℕ) {l : ℕ} → l ≡ spaceLevelOf (length w) → l ≡ 0 → refused wrongLength ≡ spaceCellOf rs w
 unfolding spaceLevelOf spaceCellOf readIn spaceCodes
@@ -160,7 +166,7 @@ module _ (second : Bool) (l : ℕ) (low : 1 ≤ l) (high : l ≤ 10) where
         ∙ rw (plane-levels second l, height-levels second l, level-strands second l, parts-map sliced-one digitOf S w, parts-map sliced-two digitOf S w) refl
 
     pub read-parts : placeIn (length w) 1 spaceLengths ≡ some l
-        → joinedAnswer (cellOf (take (splitAt (l - 1) .length) (planePart w))) (heightsAnswer top (heightAnswer rs l (map digitOf (take (2 + l) (heightPart w))))) ≡ spaceCellOf rs w
+        → joinedAnswer (cellOf (planeIn true l w)) (heightsAnswer top (heightAnswer rs l (map digitOf (standing l w)))) ≡ spaceCellOf rs w
     unfolding spaceCellOf readIn spaceCodes planeCodes
     read-parts q =
         let a = plane-same l C w long in
@@ -174,26 +180,17 @@ module _ (second : Bool) (l : ℕ) (low : 1 ≤ l) (high : l ≤ 10) where
 
 -- the reader's answer, from its two parts' answers
 pub read-joined : (second : Bool) (w : List ℕ) (l : ℕ) → Leveled (length w) l → {r : Answer SpaceCell} {a : Answer Cell} {b : Answer (ℤ × ℕ)} → r ≡ joinedAnswer a b
-    → a ≡ cellOf (take (splitAt (l - 1) .length) (planePart w)) → b ≡ heightsAnswer (topOf second) (heightAnswer (radicesOf second) l (map digitOf (take (2 + l) (heightPart w)))) → r ≡ spaceCellOf (radicesOf second) w
+    → a ≡ cellOf (planeIn true l w) → b ≡ heightsAnswer (topOf second) (heightAnswer (radicesOf second) l (map digitOf (standing l w))) → r ≡ spaceCellOf (radicesOf second) w
 read-joined second w l t {a = a} {b = b} e f g =
-    e ∙ ap (λ x. joinedAnswer x b) f ∙ ap (λ x. joinedAnswer (cellOf (take (splitAt (l - 1) .length) (planePart w))) x) g
+    e ∙ ap (λ x. joinedAnswer x b) f ∙ ap (λ x. joinedAnswer (cellOf (planeIn true l w)) x) g
     ∙ read-parts second l (t .low) (t .high) w (t .long) (t .place)
 
--- ---- the height characters where they stand
+-- ---- the height characters
 
--- a code has the places of its level
-pub height-reach : {level : ℕ} {code : List ℕ} → SpaceRoom level code → (i : ℕ) → i < 2 + level → getD heightPlaces i 0 < length code
-height-reach {level} room i h =
-    let low = room .level-low in
-    let within : ℕ → ℕ → Bool = λ l i. ltb (getD heightPlaces i 0) (getD spaceLengths l 0) in
-    let t : allBelow (within (level - 1)) (3 + (level - 1)) ≡ true = below (λ l. allBelow (within l) (3 + l)) 10 (level - 1) refl (omega (arith, low, room .level-high)) in
-    let w : getD heightPlaces i 0 < getD spaceLengths (level - 1) 0 = ltb-true _ _ (below (within (level - 1)) (3 + (level - 1)) i t (omega (arith, low))) in
-    omega (arith, room .room)
-
--- what stands there is the height part
-pub height-standing : (level : ℕ) (code : List ℕ) → standing level heightPlaces code ≡ take (2 + level) (heightPart code)
-unfolding strandPlace
-height-standing level code = refl
+standing-long : (l : ℕ) (w : List ℕ) → l ≤ 10 → length (standing l w) ≡ 2 + l
+standing-long l w h =
+    let f : ℕ → ℕ = λ p. getD w (heightPlace p) 0 in
+    length-take-le (2 + l) (map f (countFrom 0 12)) (let z : length (map f (countFrom 0 12)) ≡ 12 = given-length f 12 in omega arith)
 
 -- layers that were read lie in their range
 pub lying : (second : Bool) (l : ℕ) (ds : List ℕ) {above : Bool} {low thick : ℕ} → accepted (part above low thick) ≡ heightAnswer (radicesOf second) l ds → low < topOf second
@@ -203,3 +200,17 @@ lying second l ds e = let r = read-inside (radicesOf second) l ds (edition-fair 
 pub height-bad : (top : ℕ) (x : Read Stack) {q : Refusal} → refused q ≡ stackAnswer x → refused (wrongCharacter (heightPlace (q .place))) ≡ heightsAnswer top (stackAnswer x)
 height-bad top (ok n) e = clash (cc)
 height-bad top (bad p) {q} e = let z : q ≡ wrongCharacter p = cc in rw z refl
+
+-- and stands among the twelve
+pub height-few : (second : Bool) (l : ℕ) (w : List ℕ) → 1 ≤ l → l ≤ 10 → {q : Refusal} → refused q ≡ heightAnswer (radicesOf second) l (map digitOf (standing l w)) → q .place < 12
+height-few second l w low high {q} e = go (heightRead (radicesOf second) l (map digitOf (standing l w))) refl e
+  where
+    long : length (map digitOf (standing l w)) ≡ 2 + l
+    long = length-map (standing l w) digitOf ∙ standing-long l w high
+
+    go : (x : Read Stack) → heightRead (radicesOf second) l (map digitOf (standing l w)) ≡ x → refused q ≡ stackAnswer x → q .place < 12
+    go (ok n) f e = clash (cc)
+    go (bad p) f e =
+        let z : q ≡ wrongCharacter p = cc in
+        let h : p < 2 + l = height-inside second l low high (map digitOf (standing l w)) p long f in
+        rw z (omega arith)

@@ -1,19 +1,19 @@
--- The space writer's characters: the plane code and the height characters, built apart and woven.
+-- The space writer's characters: the plane code and the height characters, woven.
 -- Assumes nothing.
 use mathlib.Core.Path.{_≡_, refl, sym, _∙_, ap}
 use mathlib.Core.Bool.{Bool, true, false}
 use mathlib.Core.List.{List, map}
 use Prim.Native.Nat.{ℕ, _+_, _-_, _≤_}
-use native.Mathlib.Omega.{arith}
 use lib.Dec.{ltb}
 use lib.IntN.{ℤ}
 use lib.ListN.{length, take, getD, length-map}
-use lib.Seq.{sets, sets-eq, take-at}
+use lib.Seq.{sets}
 use borrow.Author.Tests.{lt-ltb}
 use Rattle.grid.specs.declared.Place.{Place}
 use Rattle.grid.specs.declared.Refusal.{Refusal}
 use Rattle.grid.specs.Units.{side, index, Square, Cube}
 use Rattle.grid.specs.inner.Roads.{squareOf}
+use Rattle.grid.specs.inner.Standing.{planePlace, heightPlace, spread, spreadBack}
 use Rattle.grid.specs.Characters.{charOf}
 use Rattle.grid.specs.Tree.{code}
 use Rattle.grid.specs.Answers.{accepted, refused, refusal, unless}
@@ -36,12 +36,12 @@ use Rattle.layers.proofs.Digits.{height-length}
 use Rattle.layers.proofs.Sides.{asked-at, layer-in}
 use Rattle.plane.specs.Text.{levelIn}
 use Rattle.plane.proofs.Reading.{code-length, on-globe}
-use Rattle.space.specs.inner.Weave.{weave, spread}
+use Rattle.space.specs.inner.Weave.{weave}
 use Rattle.space.specs.Space.{layeredText, spaceTextIn, spaceText}
 use Rattle.space.specs.inner.Asking.{SpaceFits}
-use Rattle.space.specs.inner.Parts.{tenStrands, planePlace, heightPlace}
+use Rattle.space.specs.inner.Parts.{tenStrands}
 use Rattle.space.proofs.Weaving.{code-woven, weave-map}
-use Rattle.space.proofs.Parts.{topOf, levelsOf, edition-test, plane-levels, height-levels, level-strands, levels-good, root-in, long-sum, ten}
+use Rattle.space.proofs.Parts.{topOf, levelsOf, edition-test, plane-levels, height-levels, level-strands, levels-good, root-in, long-sum}
 use Rattle.space.proofs.Spreading.{both-spread}
 
 -- a space code is its plane code and its height characters, woven
@@ -58,26 +58,19 @@ code-parts second l h s o =
 on-grid-at : (second : Bool) (p : Place) (l n : ℕ) (above : Bool) → SpaceFits second l p n → OnGrid (radicesOf second) (squareOf p, layerOf (topOf second) above n)
 on-grid-at second p l n above f = record { on-globe = on-globe p (f .wide) (f .high); layer-in = layer-in (topOf second) above n (f .rise-in) }
 
--- characters stored from the start of a line are its beginning
-take-stored : (l w : List ℕ) {n : ℕ} → length w ≡ n → n ≤ length l → take n (sets l 0 w) ≡ w
-take-stored l w {n} e h = ap (take n) (sets-eq w l 0 (omega arith)) ∙ take-at w _ n e
-
--- the plane code and the height characters, built apart and stored each at its place, are the space code
-pub put-code : (second : Bool) (l : ℕ) (p : Place) (above : Bool) (n : ℕ) (fp fh line : List ℕ) {flat high mid last : List ℕ}
-    → SpaceFits second l p n → length fp ≡ 20 → length fh ≡ 12 → getD spaceLengths (l - 1) 0 ≤ length line
-    → flat ≡ sets fp 0 (codeOf l (squareOf p)) → mid ≡ spread planePlace 0 (take (splitAt (l - 1) .length) flat) line
-    → high ≡ sets fh 0 (map charOf (heightDigits (radicesOf second) l (layerOf (topOf second) above n))) → last ≡ spread heightPlace 0 (take (2 + l) high) mid
+-- the plane characters and the height characters, laid down each at its place, are the space code
+pub put-code : (second : Bool) (l : ℕ) (p : Place) (above : Bool) (n : ℕ) (line : List ℕ) {mid last : List ℕ} → SpaceFits second l p n → getD spaceLengths (l - 1) 0 ≤ length line
+    → mid ≡ spread planePlace 0 (codeOf l (squareOf p)) line
+    → last ≡ spreadBack heightPlace 0 (map charOf (heightDigits (radicesOf second) l (layerOf (topOf second) above n))) mid
     → last ≡ sets line 0 (spaceCodeOf (radicesOf second) l (squareOf p, layerOf (topOf second) above n))
-put-code second l p above n fp fh line f lp lh room ep em eh el =
+put-code second l p above n line f room em el =
     let o = on-grid-at second p l n above f in
-    let C = ten l (f .level-low) (f .level-high) in
     let z = layerOf (topOf second) above n in
     let cp = codeOf l (squareOf p) in
     let ch = map charOf (heightDigits (radicesOf second) l z) in
     let np : length cp ≡ splitAt (l - 1) .length = code-length l (squareOf p) (o .on-globe) (f .level-low) (f .level-high) in
     let nh : length ch ≡ 2 + l = length-map (heightDigits (radicesOf second) l z) charOf ∙ height-length (radicesOf second) l z (edition-fair second) (o .layer-in) (f .level-low) (f .level-high) in
-    rw (el, em, ep, eh, take-stored fp cp np (omega (arith, C .few-one)), take-stored fh ch nh (omega (arith, C .few-two)), code-parts second l (f .level-high) (squareOf p, z) o)
-    (both-spread l cp ch line (f .level-low) (f .level-high) np nh room)
+    rw (el, em, code-parts second l (f .level-high) (squareOf p, z) o) (both-spread l cp ch line (f .level-low) (f .level-high) np nh room)
 
 -- ---- what the layer decides
 

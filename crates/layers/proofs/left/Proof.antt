@@ -6,23 +6,23 @@ use borrow.Author.Needs.{needs}
 use Rattle.layers.proofs.left.Statement.{statement}
 use Rattle.layers.proofs.left.Tie as tie
 
-mul-result : tie.Need-mul-result
-mul-result c = search needs
+mul-theirs : tie.Need-mul-theirs
+mul-theirs c = search needs
 
-array-read-result : tie.Need-array-read-result
-array-read-result c = search needs
+array-read-theirs : tie.Need-array-read-theirs
+array-read-theirs c = search needs
 
-rem-result : tie.Need-rem-result
-rem-result c = radix-some _ (c .before .args .k) (edition-fair true) (c .before .pre)
+rem-theirs : tie.Need-rem-theirs
+rem-theirs c = radix-some _ (c .args .k) (edition-fair true) (c .pre)
 
-mul-result-2 : tie.Need-mul-result-2
-mul-result-2 c = search needs
+mul-ours : tie.Need-mul-ours
+mul-ours c = search needs
 
-array-read-result-2 : tie.Need-array-read-result-2
-array-read-result-2 c = search needs
+array-read-ours : tie.Need-array-read-ours
+array-read-ours c = search needs
 
-rem-result-2 : tie.Need-rem-result-2
-rem-result-2 c = radix-some _ (c .before .args .k) (edition-fair false) (c .before .pre)
+rem-ours : tie.Need-rem-ours
+rem-ours c = radix-some _ (c .args .k) (edition-fair false) (c .pre)
 
 returns : tie.Need-returns
 returns c = rw (c .if1 .taken) refl
@@ -34,11 +34,11 @@ pub left-spec : {M : Type 1} → statement M
 left-spec =
     tie.close
     (tie.spec
-    mul-result
-    array-read-result
-    rem-result
-    mul-result-2
-    array-read-result-2
-    rem-result-2
+    mul-theirs
+    array-read-theirs
+    rem-theirs
+    mul-ours
+    array-read-ours
+    rem-ours
     returns
     returns-2)

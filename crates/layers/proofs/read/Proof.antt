@@ -19,7 +19,7 @@ read-over-requires c κs = let s = c .before .before in (fair-by (s .args .secon
 returns : tie.Need-returns
 returns c =
     let s = c .before .before .before in
-    c .read-over .ensures ∙ ap (λ (rs : List ℕ). heightAnswer rs (s .args .level) (map digitOf (standing (s .args .level) (s .args .places) (s .args .code .now)))) (c .before .radices-of .ensures)
+    c .read-over .ensures ∙ ap (λ (rs : List ℕ). heightAnswer rs (s .args .level) (map digitOf (standing (s .args .level) (s .args .code .now)))) (c .before .radices-of .ensures)
 
 pub read-spec : {M : Type 1} → statement M
 read-spec = tie.close (tie.spec radices-of-requires read-over-requires returns)

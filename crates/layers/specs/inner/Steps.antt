@@ -3,12 +3,13 @@
 use mathlib.Core.Path.{_≡_}
 use mathlib.Core.Bool.{Bool, true, false, cond, _&&_}
 use mathlib.Core.List.{List, [], _∷_, map}
-use Prim.Native.Nat.{ℕ, zero, suc, _+_, _*_, _/_, _%_, _≤_, _<_}
+use Prim.Native.Nat.{ℕ, _+_, _*_, _/_, _%_, _≤_, _<_}
 use lib.Dec.{ltb, leb, eqb}
 use lib.IntN.{ℤ}
 use lib.ListN.{length, getD, take, drop}
 use Rattle.grid.specs.Characters.{charOf, digitOf}
 use Rattle.grid.specs.Tree.{Read, ok, bad, next, code, follow}
+use Rattle.grid.specs.inner.Standing.{lengthIn, heightPlace, countFrom}
 use Rattle.grid.specs.Layers.{product, sign, Stack, all, part, allChild, layers, floorOf}
 use Rattle.layers.specs.declared.Height.{Height}
 use Rattle.layers.specs.Heights.{heightLevels, heightRead}
@@ -41,21 +42,12 @@ layerOf top above n = floorOf top (part above n 1)
 unfoldable pub heightDigits : List ℕ → ℕ → ℤ → List ℕ
 heightDigits rs l z = code (layers (product rs)) (take l (heightLevels rs)) all z
 
--- a level, a rise, and a line with room for the height characters
+-- a level, a rise, and a line with room for a space code of the level
 pub record HeightWritable (rs : List ℕ) (level rise : ℕ) (line : List ℕ) : Type 0 where
   pub some-level : 1 ≤ level
   pub ten-levels : level ≤ 10
   pub rise-in : rise < product rs
-  pub room : 2 + level ≤ length line
-
--- how many cells of the m levels after level k lie below a rise on its side of the ground
-abbrev pub cellsAfter : List ℕ → ℕ → ℕ → ℕ → List ℕ
-cellsAfter rs n k zero = []
-cellsAfter rs n k (suc m) = (n / thicknessAt rs (k + 1)) ∷ cellsAfter rs n (suc k) m
-
--- of all the levels
-unfoldable pub cellsBelow : List ℕ → ℕ → List ℕ
-cellsBelow rs n = cellsAfter rs n 0 10
+  pub room : lengthIn true level ≤ length line
 
 -- level 1, n of whose cells lie below the layer: the sign and two decimal digits
 abbrev pub firstHeight : Bool → ℕ → List ℕ
@@ -71,16 +63,15 @@ laterHeightAt rs level k n = cond (ltb k level) (charOf (n % getD rs k 0) ∷ []
 abbrev pub heightOf : Height → Read Stack
 heightOf h = cond (h .good) (ok (part (h .above) (h .low) (h .thick))) (bad (h .place))
 
--- the height characters of a code of a level, which stand at these places of it
-abbrev pub standing : ℕ → List ℕ → List ℕ → List ℕ
-standing level places code = take (2 + level) (map (λ p. getD code p 0) places)
+-- the height characters of a space code of a level
+abbrev pub standing : ℕ → List ℕ → List ℕ
+standing level code = take (2 + level) (map (λ p. getD code (heightPlace p) 0) (countFrom 0 12))
 
--- a level, and a code with those places
-pub record Readable (level : ℕ) (places code : List ℕ) : Type 0 where
+-- a level, and a code as long as its space codes
+pub record Readable (level : ℕ) (code : List ℕ) : Type 0 where
   pub some-level : 1 ≤ level
   pub ten-levels : level ≤ 10
-  pub twelve : length places ≡ 12
-  pub reach : (i : ℕ) → i < 2 + level → getD places i 0 < length code
+  pub room : lengthIn true level ≤ length code
 
 -- the digit at place p is not allowed
 pub record BadAt (p : ℕ) (h : Height) : Type 0 where

@@ -13,8 +13,10 @@ use Rattle.grid.specs.Characters.{digitOf}
 use Rattle.grid.specs.Tree.{Read, ok, bad, guard, next}
 use Rattle.grid.specs.Answers.{Answer}
 use Rattle.grid.specs.Codes.{answer}
-use Rattle.grid.specs.Splits.{first, splitAt}
+use Rattle.grid.specs.Splits.{first}
 use Rattle.grid.specs.Plane.{Box, Node, cell, ordinary, plainPart, sub, sheet, childOf, planeCodes}
+use Rattle.grid.specs.inner.Roads.{placeOf}
+use Rattle.grid.specs.inner.Standing.{levelPlace, lengthIn}
 use Rattle.ordinary_read.specs.declared.Cursor.{Cursor}
 
 -- ---- what a cursor means
@@ -29,14 +31,13 @@ ordinaryRead c = cond (c .good) (ok (cell (ordinary (c .north) (c .east)) (ordin
 
 -- ---- what reading does
 
--- the digits of the level s: its characters end where the code of that level ends
-abbrev pub levelDigits : Split → List ℕ → List ℕ
-levelDigits s w = map digitOf (take (s .characters) (drop (s .length - s .characters) w))
+-- the digits of the level s, whose characters begin at a place of the code w
+abbrev pub levelDigits : Split → ℕ → List ℕ → List ℕ
+levelDigits s at w = map digitOf (take (s .characters) (drop at w))
 
--- what was read, and then the level s, where the code w has it
-abbrev pub onward : Split → List ℕ → Read Node → Read Node
-onward s w r =
-    cond (leb (s .length) (length w)) (next (s .length - s .characters) r (λ n. childOf s n (levelDigits s w))) r
+-- what was read, and then the level s, where the code w has it; a bad character's place is the one in a plane code
+abbrev pub onward : Split → ℕ → List ℕ → Read Node → Read Node
+onward s at w r = cond (leb (at + s .characters) (length w)) (next (placeOf s) r (λ n. childOf s n (levelDigits s at w))) r
 
 -- the child in a column and a row of the cursor's cell: a column that the level s has not is bad at the cursor, a row at the level's last character
 abbrev pub ordinaryChild : Split → ℕ → ℕ → Cursor → Read Node
@@ -86,17 +87,22 @@ pub record OneCharacter (s : Split) : Type 0 where
   pub two-columns : s .columns ≡ 2
   pub few-rows : 2 * s .rows ≤ 10
 
--- all was allowed so far, and a code of n characters has the level s
-abbrev pub goesOn : Split → ℕ → Cursor → Bool
-goesOn s n c = c .good && leb (s .length) n
+-- all was allowed so far, and a code of n characters has those of the level s, which begin at a place
+abbrev pub goesOn : Split → ℕ → ℕ → Cursor → Bool
+goesOn s at n c = c .good && leb (at + s .characters) n
 
 -- before the level s, in a code of n characters: where the code has the level, it comes next
-abbrev pub LevelNext : Split → ℕ → Cursor → Type 0
-LevelNext s n c = c .good ≡ true → Inside c × (s .length ≤ n → DividedBy s c)
+abbrev pub LevelNext : Split → ℕ → ℕ → Cursor → Type 0
+LevelNext s at n c = c .good ≡ true → Inside c × (at + s .characters ≤ n → DividedBy s c)
 
 -- after it: where the code has the level, it is read
-abbrev pub LevelRead : Split → ℕ → Cursor → Type 0
-LevelRead s n c = c .good ≡ true → Inside c × (s .length ≤ n → LevelCell s c)
+abbrev pub LevelRead : Split → ℕ → ℕ → Cursor → Type 0
+LevelRead s at n c = c .good ≡ true → Inside c × (at + s .characters ≤ n → LevelCell s c)
+
+-- before the level s, level k + 1, where it stands; and what its place is told from
+pub record Before (spaced : Bool) (k : ℕ) (s : Split) (n : ℕ) (c : Cursor) : Type 0 where
+  pub placed : (k < 10) × (s .characters ≤ s .length) × (s .length ≤ 20)
+  pub next : LevelNext s (levelPlace spaced k s) n c
 
 -- ---- what each method makes
 
@@ -112,16 +118,16 @@ pub record Child (s : Split) (column row : ℕ) (c r : Cursor) : Type 0 where
   pub reached : r .good ≡ true → Inside r × LevelCell s r
 
 -- one level more
-pub record Onward (s : Split) (w : List ℕ) (c r : Cursor) : Type 0 where
-  pub read : ordinaryRead r ≡ onward s w (ordinaryRead c)
-  pub reached : LevelRead s (length w) r
+pub record Onward (s : Split) (at : ℕ) (w : List ℕ) (c r : Cursor) : Type 0 where
+  pub read : ordinaryRead r ≡ onward s at w (ordinaryRead c)
+  pub reached : LevelRead s at (length w) r
 
 -- ---- what the reader is given: the zone and the row of a code, and its level, which its length n tells
 
-pub record SheetCode (level zone row n : ℕ) : Type 0 where
+pub record SheetCode (spaced : Bool) (level zone row n : ℕ) : Type 0 where
   pub some-level : 1 ≤ level
   pub last-level : level ≤ 10
   pub some-zone : 1 ≤ zone
   pub last-zone : zone ≤ first .columns
   pub last-row : row < first .rows
-  pub length-is : n ≡ splitAt (level - 1) .length
+  pub length-is : n ≡ lengthIn spaced level

@@ -22,6 +22,9 @@ split-of-requires c κs = search needs
 zone-requires : tie.Need-zone-requires
 zone-requires c κs = search needs
 
+zone-place-requires : tie.Need-zone-place-requires
+zone-place-requires c κs = search needs
+
 hemisphere-requires : tie.Need-hemisphere-requires
 hemisphere-requires c κs = search needs
 
@@ -32,12 +35,10 @@ add-line : tie.Need-add-line
 add-line c = search needs
 
 cast-line : tie.Need-cast-line
-cast-line c =
-    let s = c .before .before .before .before in
-    omega (arith, c .before .zone .ensures, zone-small (s .args .p .east) (s .args .p .x) (s .pre .0))
+cast-line c = let s = c .before .before .before .before .before in omega (arith, c .before .before .zone .ensures, zone-small (s .args .p .east) (s .args .p .x) (s .pre .0))
 
 slice-write-line-2 : tie.Need-slice-write-line-2
-slice-write-line-2 c = simp length-set (omega (arith, c .before .before .before .before .pre))
+slice-write-line-2 c = simp length-set (omega (arith, c .before .zone-place .ensures, c .before .before .before .before .before .pre))
 
 add-line-2 : tie.Need-add-line-2
 add-line-2 c = search needs
@@ -45,30 +46,36 @@ add-line-2 c = search needs
 cast-line-2 : tie.Need-cast-line-2
 cast-line-2 c = search needs
 
+add-line-3 : tie.Need-add-line-3
+add-line-3 c = search needs
+
 slice-write-line-3 : tie.Need-slice-write-line-3
-slice-write-line-3 c = simp length-set (omega (arith, c .before .before .before .before .pre))
+slice-write-line-3 c = simp length-set (omega (arith, c .before .zone-place .ensures, c .before .before .before .before .before .pre))
 
 div-line : tie.Need-div-line
-div-line c = omega (arith, high (c .before .before .before .before))
+div-line c = omega (arith, high (c .before .before .before .before .before))
 
-add-line-3 : tie.Need-add-line-3
-add-line-3 c = record { fits = omega (arith, few (c .before .before .before .before)) }
+add-line-4 : tie.Need-add-line-4
+add-line-4 c = record { fits = omega (arith, few (c .before .before .before .before .before)) }
 
 cast-line-3 : tie.Need-cast-line-3
-cast-line-3 c = record { fits = omega (arith, few (c .before .before .before .before)) }
+cast-line-3 c = record { fits = omega (arith, few (c .before .before .before .before .before)) }
+
+add-line-5 : tie.Need-add-line-5
+add-line-5 c = search needs
 
 slice-write-line-4 : tie.Need-slice-write-line-4
-slice-write-line-4 c = search needs
+slice-write-line-4 c = simp length-set (omega (arith, c .before .before .before .zone-place .ensures, c .before .before .before .before .before .before .before .pre))
 
 same-length : tie.Need-same-length
 same-length c = search needs
 
 returns : tie.Need-returns
 returns c =
-    let s = c .before .before .before .before .before .before in
-    let y : s .args .p .y / c .before .before .before .before .split-of .result .height ≡ s .args .p .y / first .height =
-    ap (λ (d : ℕ). s .args .p .y / d) (high (c .before .before .before .before)) in
-    first-stored (s .args .p) _ (s .pre .0) (s .pre .1) (c .before .before .before .zone .ensures) (c .before .before .hemisphere .ensures) y
+    let s = c .before .before .before .before .before .before .before in
+    let d = c .before .before .before .before .before in
+    let y : s .args .p .y / d .split-of .result .height ≡ s .args .p .y / first .height = ap (λ (x : ℕ). s .args .p .y / x) (high d) in
+    first-stored (s .args .spaced) (s .args .p) _ (s .pre .0) (s .pre .1) (c .before .before .before .before .zone .ensures) (c .before .before .hemisphere .ensures) y (c .before .before .before .zone-place .ensures)
 
 pub put-first-spec : {M : Type 1} → statement M
 put-first-spec =
@@ -76,6 +83,7 @@ put-first-spec =
     (tie.spec
     split-of-requires
     zone-requires
+    zone-place-requires
     hemisphere-requires
     slice-write-line
     add-line
@@ -83,10 +91,12 @@ put-first-spec =
     slice-write-line-2
     add-line-2
     cast-line-2
+    add-line-3
     slice-write-line-3
     div-line
-    add-line-3
+    add-line-4
     cast-line-3
+    add-line-5
     slice-write-line-4
     same-length
     returns)

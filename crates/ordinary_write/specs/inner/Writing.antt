@@ -1,22 +1,23 @@
 -- What the writer of ordinary plane codes is given, and the digits of each level after the first.
 -- Assumes nothing.
-use Prim.Native.Nat.{ℕ, _-_, _/_, _%_, _≤_, _<_}
+use mathlib.Core.Bool.{Bool}
 use mathlib.Core.List.{List}
+use Prim.Native.Nat.{ℕ, _/_, _%_, _≤_, _<_}
 use lib.ListN.{length}
 use Rattle.grid.specs.declared.Digits.{Digits}
 use Rattle.grid.specs.declared.Place.{Place}
 use Rattle.grid.specs.declared.Split.{Split}
 use Rattle.grid.specs.Units.{HALF, POLAR}
-use Rattle.grid.specs.Splits.{splitAt}
-use Rattle.grid.specs.inner.Roads.{placeOf, LevelFits}
+use Rattle.grid.specs.inner.Roads.{LevelFits}
+use Rattle.grid.specs.inner.Standing.{levelPlace, lengthIn}
 
--- a level, an ordinary position, and a line with room for its code
-pub record OrdinaryWritable (level : ℕ) (p : Place) (line : List ℕ) : Type 0 where
+-- a level, an ordinary position, and a line with room for its plane code, or for its space code
+pub record OrdinaryWritable (spaced : Bool) (level : ℕ) (p : Place) (line : List ℕ) : Type 0 where
   pub some-level : 1 ≤ level
   pub ten-levels : level ≤ 10
   pub x-in : p .x < HALF
   pub y-in : p .y < POLAR
-  pub room : splitAt (level - 1) .length ≤ length line
+  pub room : lengthIn spaced level ≤ length line
 
 -- the column and the row of the outward indices x and y, in the cell of the level before
 abbrev pub ordinaryDigits : Split → ℕ → ℕ → Digits
@@ -30,7 +31,7 @@ pub record OrdinaryDivides (s : Split) : Type 0 where
   pub some-rows : 0 < s .rows
 
 -- level k + 1, whose split is s, can be written
-pub record OrdinaryReady (level k : ℕ) (s : Split) (p : Place) (line : List ℕ) : Type 0 where
+pub record OrdinaryReady (spaced : Bool) (level k : ℕ) (s : Split) (p : Place) (line : List ℕ) : Type 0 where
   pub divides : OrdinaryDivides s
-  pub starts : s .characters ≤ s .length
-  pub fits : LevelFits level k s (ordinaryDigits s (p .x) (p .y)) line (placeOf s)
+  pub placed : (k < 10) × (s .characters ≤ s .length) × (s .length ≤ 20)
+  pub fits : LevelFits level k s (ordinaryDigits s (p .x) (p .y)) line (levelPlace spaced k s)

@@ -1,8 +1,13 @@
 -- `plane::read` meets its contract. Assumes nothing.
-use mathlib.Core.Path.{sym, _∙_, ap, subst}
-use lib.ListN.{length}
+use mathlib.Core.Path.{_≡_, sym, _∙_, ap, subst}
+use mathlib.Core.Bool.{false}
+use mathlib.Core.List.{map}
+use lib.ListN.{length, take}
+use Rattle.grid.specs.Characters.{digitOf}
+use Rattle.grid.specs.Plane.{globeChild}
 use Rattle.grid.specs.Answers as answers
 use Rattle.plane.specs.inner.Start.{firstRead, Ranged}
+use Rattle.plane.proofs.Start.{first-digits}
 use Rattle.plane.proofs.Reading.{Leveled, leveled, read-none, read-first, read-rest, length-four}
 use borrow.Author.Needs.{needs}
 use Rattle.plane.proofs.read.Statement.{statement}
@@ -12,6 +17,12 @@ use Rattle.polar_read.proofs.rest.Reads as rest-reads′
 -- the level that was found is the code's
 known : (c : tie.Else1) → Leveled (length (c .before .before .before .args .code .now)) (c .before .level-of .result)
 known c = leveled _ (c .before .level-of .ensures) (c .if1 .left)
+
+-- the first four characters lead where they should
+led : (c : tie.After-begin) → firstRead (c .begin .result) ≡ globeChild (take 4 (map digitOf (c .before .before .before .before .args .code .now)))
+led c =
+    let l = known (c .before) in
+    c .begin .ensures .0 ∙ ap globeChild (sym (first-digits false (c .before .before .level-of .result) (c .before .before .before .before .args .code .now) (l .low) (l .high) (l .long)))
 
 level-of-requires : tie.Need-level-of-requires
 level-of-requires c κs = search needs
@@ -49,16 +60,16 @@ wrong-character-requires : tie.Need-wrong-character-requires
 wrong-character-requires c κs = search needs
 
 returns-2 : tie.Need-returns-2
-returns-2 c = read-rest (c .before .before .before .before .before .before .before .before .args .code .now) (known (c .before .before .before .before .before)) (ap firstRead (sym (c .before .before .north .given .1)) ∙ c .before .before .before .before .begin .ensures .0) (c .rest .ensures)
+returns-2 c = read-rest (c .before .before .before .before .before .before .before .before .args .code .now) (known (c .before .before .before .before .before)) (ap firstRead (sym (c .before .before .north .given .1)) ∙ led (c .before .before .before .before)) (c .rest .ensures)
 
 returns-3 : tie.Need-returns-3
-returns-3 c = read-rest (c .before .before .before .before .before .before .before .before .args .code .now) (known (c .before .before .before .before .before)) (ap firstRead (sym (c .before .before .north2 .given .1)) ∙ c .before .before .before .before .begin .ensures .0) (c .rest2 .ensures)
+returns-3 c = read-rest (c .before .before .before .before .before .before .before .before .args .code .now) (known (c .before .before .before .before .before)) (ap firstRead (sym (c .before .before .north2 .given .1)) ∙ led (c .before .before .before .before)) (c .rest2 .ensures)
 
 returns-4 : tie.Need-returns-4
 returns-4 c =
     ap answers.refused (c .wrong-character .ensures)
     ∙ read-first (c .before .before .before .before .before .before .before .before .args .code .now) (known (c .before .before .before .before .before))
-    (ap firstRead (sym (c .before .before .place .given .1)) ∙ c .before .before .before .before .begin .ensures .0)
+    (ap firstRead (sym (c .before .before .place .given .1)) ∙ led (c .before .before .before .before))
 
 pub read-spec : {M : Type 1} → statement M
 read-spec =

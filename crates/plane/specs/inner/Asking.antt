@@ -2,15 +2,15 @@
 -- Assumes nothing.
 use mathlib.Core.Bool.{Bool}
 use mathlib.Core.List.{List}
-use Prim.Native.Nat.{ℕ, _-_, _≤_, _<_}
+use Prim.Native.Nat.{ℕ, _≤_, _<_}
 use lib.IntN.{ℤ}
 use lib.ListN.{length}
 use Rattle.grid.specs.declared.Place.{Place}
 use Rattle.grid.specs.declared.Refusal.{Refusal}
 use Rattle.grid.specs.Units.{HALF, QUARTER, unit, Square}
-use Rattle.grid.specs.Splits.{splitAt}
 use Rattle.grid.specs.Answers.{Answer, accepted, refused}
 use Rattle.grid.specs.inner.Roads.{squareOf}
+use Rattle.grid.specs.inner.Standing.{lengthIn}
 use Rattle.plane.specs.declared.AskedLevel.{AskedLevel}
 use Rattle.plane.specs.declared.AskedLevel.the-variants as level
 use Rattle.plane.specs.declared.Standing.{Standing}
@@ -37,10 +37,10 @@ positionAsked (position.Refused r) = refused r
 abbrev pub placeAt : Bool → Bool → ℕ → ℕ → Place
 placeAt east north x y = record { east = east; north = north; x = x; y = y }
 
--- a level, a position on the globe, and a line with room for its code
-pub record PlaneWritable (level : ℕ) (p : Place) (line : List ℕ) : Type 0 where
+-- a level, a position on the globe, and a line with room for its plane code, or for its space code
+pub record PlaneWritable (spaced : Bool) (level : ℕ) (p : Place) (line : List ℕ) : Type 0 where
   pub level-low : 1 ≤ level
   pub level-high : level ≤ 10
   pub wide : p .x < HALF
   pub high : p .y < QUARTER
-  pub room : splitAt (level - 1) .length ≤ length line
+  pub room : lengthIn spaced level ≤ length line

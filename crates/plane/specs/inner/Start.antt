@@ -1,13 +1,26 @@
--- The first four characters of a plane code, as the reader finds them.
+-- The first four characters of a plane code, as the reader finds them; in a space code the sign stands behind the first.
 -- Assumes nothing.
 use mathlib.Core.Bool.{Bool, cond, _&&_, _||_}
+use mathlib.Core.List.{List, [], _∷_}
 use Prim.Native.Nat.{ℕ, _+_, _-_, _*_, _≤_, _<_}
 use lib.Dec.{ltb, leb, eqb}
+use lib.ListN.{getD}
+use Rattle.grid.specs.Characters.{digitOf}
 use Rattle.grid.specs.Splits.{first}
 use Rattle.grid.specs.Tree.{Read, ok, bad, guard}
 use Rattle.grid.specs.Plane.{Node, pole, sheet}
+use Rattle.grid.specs.inner.Standing.{zonePlace}
 use Rattle.plane.specs.declared.First.{First}
 use Rattle.plane.specs.declared.First.the-variants.{Sheet, Pole, Bad}
+
+-- the digits of the four: N or S, then three that stand behind the sign in a space code
+abbrev pub firstDigits : Bool → List ℕ → List ℕ
+firstDigits spaced w =
+    digitOf (getD w 0 0)
+    ∷ digitOf (getD w (zonePlace spaced) 0)
+    ∷ digitOf (getD w (zonePlace spaced + 1) 0)
+    ∷ digitOf (getD w (zonePlace spaced + 2) 0)
+    ∷ []
 
 -- the node of level 1, or the place of the first bad character: `answer` (grid, specs/Codes.antt) makes it refusal 7
 abbrev pub firstRead : First → Read Node

@@ -3,16 +3,16 @@
 use mathlib.Core.Path.{_≡_}
 use mathlib.Core.Bool.{Bool, true, false, cond}
 use mathlib.Core.List.{List, map}
-use Prim.Native.Nat.{ℕ, _+_, _-_, _/_}
-use lib.Dec.{eqb}
-use lib.ListN.{take, drop}
+use Prim.Native.Nat.{ℕ, _+_, _-_, _*_, _/_}
+use lib.Dec.{ltb, eqb}
+use lib.ListN.{getD, take, drop}
 use Rattle.grid.specs.declared.Split.{Split}
 use Rattle.grid.specs.declared.Cell.{Cell}
 use Rattle.grid.specs.Units.{TURN}
 use Rattle.grid.specs.Characters.{digitOf}
 use Rattle.grid.specs.Tree.{Read, ok, bad, guard, shift, follow}
 use Rattle.grid.specs.Answers.{Answer, accepted, refused, wrongCharacter}
-use Rattle.grid.specs.Splits.{first, splits, splitAt}
+use Rattle.grid.specs.Splits.{first, second, splits, splitAt}
 use Rattle.grid.specs.Plane.{
   Frame,
   belt,
@@ -31,10 +31,12 @@ use Rattle.grid.specs.Plane.{
   allowed,
   poleWidth,
   poleHeight,
+  polarNode,
   childOf,
   plane,
   cellAt,
 }
+use Rattle.grid.specs.inner.Standing.{levelPlace}
 use Rattle.polar_read.specs.declared.Cursor.{Cursor}
 
 -- ---- a cursor
@@ -110,13 +112,31 @@ polarChild c s i j =
 abbrev pub settledOf : Cursor → Split → ℕ → ℕ → ℕ → Read Node
 settledOf c s i j at = guard at (allowed (c .cap) (divided c s) i j) (ok (polarChild c s i j))
 
--- where the next level's characters of the code w lead from the cursor's cell
+-- the characters of level k + 1, whose split is s, in the code w
+abbrev pub levelAmong : Bool → ℕ → Split → List ℕ → List ℕ
+levelAmong spaced k s w = take (s .characters) (drop (levelPlace spaced k s) w)
+
+-- where the next level's characters lead from the cursor's cell
 unfoldable pub polarStep : Cursor → Split → List ℕ → Read Node
-polarStep c s w = shift (c .place) (childOf s (nodeOf c) (take (s .characters) (drop (c .place) (map digitOf w))))
+polarStep c s w = shift (c .place) (childOf s (nodeOf c) (map digitOf w))
 
 -- the cursor m has read r, one level of split s on from c
 abbrev pub Moved : Cursor → Split → Read Node → Cursor → Type 0
 Moved c s r m = HasRead (c .north) (c .place + s .characters) r m
+
+-- ---- level 2
+
+-- the polar cell that two digits name; 16 where the first is not below 4, 17 where the second is not
+abbrev pub namedBy : ℕ → ℕ → ℕ
+namedBy i j = cond (ltb i 4) (cond (ltb j 4) (4 * i + j) 17) 16
+
+-- the one that the characters of level 2 in the code w name
+unfoldable pub namedIn : Bool → List ℕ → ℕ
+namedIn spaced w = namedBy (digitOf (getD w (levelPlace spaced 1 second) 0)) (digitOf (getD w (levelPlace spaced 1 second + 1) 0))
+
+-- what was read where they name k: that polar cell, or the place of the one that is not allowed
+abbrev pub namedRead : Bool → ℕ → Read Node
+namedRead n k = cond (ltb k 16) (ok (polarNode n k)) (bad (first .length + (k - 16)))
 
 -- ---- a whole code
 

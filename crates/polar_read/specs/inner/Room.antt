@@ -1,21 +1,28 @@
 -- What the steps of reading a polar code ask of a cursor and of the code, so that no number leaves its type.
 -- Assumes nothing.
 use mathlib.Core.Path.{_≡_}
-use mathlib.Core.Bool.{true, false}
+use mathlib.Core.Bool.{Bool, true, false}
 use mathlib.Core.List.{List}
 use Prim.Native.Nat.{ℕ, _+_, _-_, _*_, _≤_, _<_, min}
 use lib.ListN.{length}
 use Rattle.grid.specs.declared.Split.{Split}
 use Rattle.grid.specs.Units.{TURN, HALF, QUARTER}
 use Rattle.grid.specs.Splits.{splitAt}
+use Rattle.grid.specs.inner.Standing.{levelPlace, lengthIn, planeIn}
 use Rattle.polar_read.specs.declared.Cursor.{Cursor}
 use Rattle.polar_read.specs.inner.Reading.{Round, columnsOf, inmostOf, PolarReached}
 
--- the code w is as long as one of its level
-pub record OfLevel (level : ℕ) (w : List ℕ) : Type 0 where
+-- the code w, of space where `spaced` is true, is as long as one of its level
+pub record OfLevel (spaced : Bool) (level : ℕ) (w : List ℕ) : Type 0 where
   pub some : 1 ≤ level
   pub most : level ≤ 10
-  pub long : length w ≡ splitAt (level - 1) .length
+  pub long : length w ≡ lengthIn spaced level
+
+-- the code w has the n characters of level k + 1, whose split is s
+pub record HasLevel (spaced : Bool) (k : ℕ) (s : Split) (n : ℕ) (w : List ℕ) : Type 0 where
+  pub last : k < 10
+  pub size : s .characters ≡ n
+  pub room : levelPlace spaced k s + n ≤ length w
 
 -- a level of one character has at most five columns and rows, one of two at most fifteen
 pub record PolarDigits (s : Split) : Type 0 where
@@ -42,13 +49,13 @@ pub record ChildRoom (c : Cursor) (s : Split) (columns i j : ℕ) : Type 0 where
   pub inmost : inmostOf c j ≡ true → i ≡ 0
 
 -- of the code w, as long as one of its level, the levels to k were read; s is the next, of n characters
-pub record PolarReady (level k : ℕ) (s : Split) (n : ℕ) (w : List ℕ) (c : Cursor) : Type 0 where
+pub record PolarReady (spaced : Bool) (level k : ℕ) (s : Split) (n : ℕ) (w : List ℕ) (c : Cursor) : Type 0 where
   pub later : 1 ≤ k
   pub last : k < 10
-  pub long : OfLevel level w
+  pub long : OfLevel spaced level w
   pub table : s ≡ splitAt k
   pub size : s .characters ≡ n
-  pub so-far : PolarReached (min k level) w c
+  pub so-far : PolarReached (min k level) (planeIn spaced level w) c
 
 -- the cursor's cell is not empty and lies in its frame
 pub record Whole (c : Cursor) : Type 0 where

@@ -1,9 +1,10 @@
 -- `polar_write::put` meets its contract: each call adds its level. Assumes nothing.
 use mathlib.Core.Path.{refl}
+use mathlib.Core.Bool.{false}
 use mathlib.Core.List.{List}
 use Prim.Native.Nat.{ℕ}
 use borrow.Author.Needs.{needs}
-use Rattle.grid.proofs.Levels.{laid-all, laid-length}
+use Rattle.grid.proofs.Levels.{laid-plain, laid-length}
 use Rattle.polar_write.specs.declared.Spot.{Spot}
 use Rattle.polar_write.proofs.Written.{Done, ready, onward}
 use Rattle.polar_write.proofs.Starts.{started}
@@ -13,33 +14,33 @@ use Rattle.polar_write.proofs.put.Tie as tie
 -- ---- the line and the spot after each call
 
 abbrev After : ℕ → List ℕ → Spot → Type 0
-After k l r = (s : tie.Start) × Done (s .args .level) k (s .args .p) (s .args .line .now) l r
+After k l r = (s : tie.Start) × Done false (s .args .level) k (s .args .p) (s .args .line .now) l r
 
-abbrev after-2 : (c : tie.After-start) → After 2 (c .start .last .1 .1 .0) (c .start .result)
+abbrev after-2 : (c : tie.After-start) → After 2 (c .start .last .1 .1 .1 .0) (c .start .result)
 after-2 c = let s = c .before .before .before in (s, started (s .pre) (c .start .ensures))
 
-abbrev after-3 : (c : tie.After-next) → After 3 (c .next .last .1 .1 .1 .1 .0) (c .next .result)
+abbrev after-3 : (c : tie.After-next) → After 3 (c .next .last .1 .1 .1 .1 .1 .0) (c .next .result)
 after-3 c = let a = after-2 (c .before .before .before .before .before) in (a .0, onward 2 refl (c .before .before .split-of .ensures) (a .1) (c .next .ensures))
 
-abbrev after-4 : (c : tie.After-next2) → After 4 (c .next2 .last .1 .1 .1 .1 .0) (c .next2 .result)
+abbrev after-4 : (c : tie.After-next2) → After 4 (c .next2 .last .1 .1 .1 .1 .1 .0) (c .next2 .result)
 after-4 c = let a = after-3 (c .before .before .before .before .before) in (a .0, onward 3 refl (c .before .before .split-of2 .ensures) (a .1) (c .next2 .ensures))
 
-abbrev after-5 : (c : tie.After-next3) → After 5 (c .next3 .last .1 .1 .1 .1 .0) (c .next3 .result)
+abbrev after-5 : (c : tie.After-next3) → After 5 (c .next3 .last .1 .1 .1 .1 .1 .0) (c .next3 .result)
 after-5 c = let a = after-4 (c .before .before .before .before .before) in (a .0, onward 4 refl (c .before .before .split-of3 .ensures) (a .1) (c .next3 .ensures))
 
-abbrev after-6 : (c : tie.After-next4) → After 6 (c .next4 .last .1 .1 .1 .1 .0) (c .next4 .result)
+abbrev after-6 : (c : tie.After-next4) → After 6 (c .next4 .last .1 .1 .1 .1 .1 .0) (c .next4 .result)
 after-6 c = let a = after-5 (c .before .before .before .before .before) in (a .0, onward 5 refl (c .before .before .split-of4 .ensures) (a .1) (c .next4 .ensures))
 
-abbrev after-7 : (c : tie.After-next5) → After 7 (c .next5 .last .1 .1 .1 .1 .0) (c .next5 .result)
+abbrev after-7 : (c : tie.After-next5) → After 7 (c .next5 .last .1 .1 .1 .1 .1 .0) (c .next5 .result)
 after-7 c = let a = after-6 (c .before .before .before .before .before) in (a .0, onward 6 refl (c .before .before .split-of5 .ensures) (a .1) (c .next5 .ensures))
 
-abbrev after-8 : (c : tie.After-next6) → After 8 (c .next6 .last .1 .1 .1 .1 .0) (c .next6 .result)
+abbrev after-8 : (c : tie.After-next6) → After 8 (c .next6 .last .1 .1 .1 .1 .1 .0) (c .next6 .result)
 after-8 c = let a = after-7 (c .before .before .before .before .before) in (a .0, onward 7 refl (c .before .before .split-of6 .ensures) (a .1) (c .next6 .ensures))
 
-abbrev after-9 : (c : tie.After-next7) → After 9 (c .next7 .last .1 .1 .1 .1 .0) (c .next7 .result)
+abbrev after-9 : (c : tie.After-next7) → After 9 (c .next7 .last .1 .1 .1 .1 .1 .0) (c .next7 .result)
 after-9 c = let a = after-8 (c .before .before .before .before .before) in (a .0, onward 8 refl (c .before .before .split-of7 .ensures) (a .1) (c .next7 .ensures))
 
-abbrev after-10 : (c : tie.After-next8) → After 10 (c .next8 .last .1 .1 .1 .1 .0) (c .next8 .result)
+abbrev after-10 : (c : tie.After-next8) → After 10 (c .next8 .last .1 .1 .1 .1 .1 .0) (c .next8 .result)
 after-10 c = let a = after-9 (c .before .before .before .before .before) in (a .0, onward 9 refl (c .before .before .split-of8 .ensures) (a .1) (c .next8 .ensures))
 
 -- ---- the needs
@@ -99,7 +100,7 @@ same-length : tie.Need-same-length
 same-length c = laid-length (after-10 (c .before .before) .1 .text)
 
 returns : tie.Need-returns
-returns c = laid-all (after-10 (c .before .before) .1 .text)
+returns c = laid-plain (after-10 (c .before .before) .1 .text)
 
 pub put-spec : {M : Type 1} → statement M
 put-spec =

@@ -10,8 +10,9 @@ use lib.Seq.{sets}
 use Rattle.grid.specs.declared.Split.{Split}
 use Rattle.grid.specs.declared.Place.{Place}
 use Rattle.grid.specs.Units.{TURN, HALF, QUARTER, POLAR, eastward, fromPole, Square}
-use Rattle.grid.specs.Splits.{splitAt, polarCellAt}
-use Rattle.grid.specs.inner.Roads.{squareOf, placeOf, levelChars, LevelFits}
+use Rattle.grid.specs.Splits.{polarCellAt}
+use Rattle.grid.specs.inner.Roads.{squareOf, levelChars, LevelFits}
+use Rattle.grid.specs.inner.Standing.{levelPlace, lengthIn, standsAt, spread}
 use Rattle.grid.specs.Characters.{charOf}
 use Rattle.grid.specs.Plane.{Node, globe, pole, cell, cap, xIn, yIn, letter, polarHolds, polarCellOf, polarNode, codeOf}
 use Rattle.polar_write.specs.declared.Spot.{Spot}
@@ -63,15 +64,15 @@ pub record SpotDivides (t : Split) : Type 0 where
   pub parts : 0 < ringWidth t / t .width
 
 -- level k + 1, whose split is t, can be gone down and written
-pub record SpotReady (level k : ℕ) (t : Split) (s : Spot) (line : List ℕ) : Type 0 where
+pub record SpotReady (spaced : Bool) (level k : ℕ) (t : Split) (s : Spot) (line : List ℕ) : Type 0 where
   pub divides : SpotDivides t
-  pub starts : t .characters ≤ t .length
-  pub fits : LevelFits level k t (spotStep t s .digits) line (placeOf t)
+  pub placed : (k < 10) × (t .characters ≤ t .length) × (t .length ≤ 20)
+  pub fits : LevelFits level k t (spotStep t s .digits) line (levelPlace spaced k t)
 
 -- gone down: the spot is moved, and the level's characters are laid down
-pub record Gone (level k : ℕ) (t : Split) (s : Spot) (before after : List ℕ) (r : Spot) : Type 0 where
+pub record Gone (spaced : Bool) (level k : ℕ) (t : Split) (s : Spot) (before after : List ℕ) (r : Spot) : Type 0 where
   pub moved : r ≡ spotStep t s .rest
-  pub laid : after ≡ sets before (placeOf t) (levelChars level k t (spotStep t s .digits))
+  pub laid : after ≡ sets before (levelPlace spaced k t) (levelChars level k t (spotStep t s .digits))
 
 -- a polar place
 pub record Polar (p : Place) : Type 0 where
@@ -98,13 +99,13 @@ pub record Begun (p : Place) (r : Step) : Type 0 where
   pub stands : r .rest ≡ spotIn (polarNode (p .north) (polarCellOf (squareOf p))) (squareOf p)
 
 -- what the writer is called with
-pub record PolarWritable (level : ℕ) (p : Place) (line : List ℕ) : Type 0 where
+pub record PolarWritable (spaced : Bool) (level : ℕ) (p : Place) (line : List ℕ) : Type 0 where
   pub level-low : 1 ≤ level
   pub level-high : level ≤ 10
   pub polar : Polar p
-  pub room : splitAt (level - 1) .length ≤ length line
+  pub room : lengthIn spaced level ≤ length line
 
 -- the first two levels are written, as far as the level goes, and the place stands in its polar cell
-pub record SpotStarted (level : ℕ) (p : Place) (before after : List ℕ) (r : Spot) : Type 0 where
+pub record SpotStarted (spaced : Bool) (level : ℕ) (p : Place) (before after : List ℕ) (r : Spot) : Type 0 where
   pub stands : r ≡ spotIn (polarNode (p .north) (polarCellOf (squareOf p))) (squareOf p)
-  pub laid : after ≡ sets before 0 (codeOf (min level 2) (squareOf p))
+  pub laid : after ≡ spread (standsAt spaced) 0 (codeOf (min level 2) (squareOf p)) before

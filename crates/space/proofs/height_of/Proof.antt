@@ -1,30 +1,28 @@
 -- `space::height_of` meets its contract. Assumes nothing.
-use mathlib.Core.Path.{_≡_, refl, sym, _∙_, ap}
-use mathlib.Core.List.{List, map}
-use Prim.Native.Nat.{ℕ, _+_}
+use mathlib.Core.Path.{_≡_, sym, _∙_, ap}
+use mathlib.Core.List.{map}
+use native.Mathlib.Omega.{arith}
 use mir.Syntax.{w32}
 use mir.Facts.{toZ-ofZ}
-use lib.ListN.{take}
 use Rattle.grid.specs.Characters.{digitOf}
 use Rattle.grid.specs.Layers.{product}
 use Rattle.layers.specs.declared.LayersRead.{LayersRead}
 use Rattle.layers.specs.inner.Editions.{radicesOf}
+use Rattle.layers.specs.inner.Steps.{standing}
 use Rattle.layers.specs.Heights.{heightRead, heightAnswer, layersAnswer}
-use Rattle.space.specs.inner.Parts.{heightPart, heightsAnswer}
-use Rattle.space.proofs.Reading.{height-reach, height-standing, lying, height-bad}
+use Rattle.space.specs.inner.Parts.{heightsAnswer}
+use Rattle.space.proofs.Reading.{lying, height-bad, height-few}
 use borrow.Author.Needs.{needs}
 use Rattle.space.proofs.height_of.Statement.{statement}
 use Rattle.space.proofs.height_of.Tie as tie
 
--- what was read of the height part
+-- what was read of the height characters
 answered : (c : tie.After-read) {h : LayersRead} → c .read .result ≡ h
-    → let s = c .before .before in layersAnswer h ≡ heightAnswer (radicesOf (s .args .second)) (s .args .level) (map digitOf (take (2 + s .args .level) (heightPart (s .args .code .now))))
-answered c e =
-    let s = c .before .before in
-    ap layersAnswer (sym e) ∙ c .read .ensures ∙ ap (λ (w : List ℕ). heightAnswer (radicesOf (s .args .second)) (s .args .level) (map digitOf w)) (height-standing (s .args .level) (s .args .code .now))
+    → let s = c .before .before in layersAnswer h ≡ heightAnswer (radicesOf (s .args .second)) (s .args .level) (map digitOf (standing (s .args .level) (s .args .code .now)))
+answered c e = ap layersAnswer (sym e) ∙ c .read .ensures
 
 read-requires : tie.Need-read-requires
-read-requires c κs = let d = c .before .pre in record { some-level = d .level-low; ten-levels = d .level-high; twelve = refl; reach = height-reach d }
+read-requires c κs = let d = c .before .pre in record { some-level = d .some; ten-levels = d .most; room = omega (arith, d .long) }
 
 enum-known-above : tie.Need-enum-known-above
 enum-known-above c = search needs
@@ -38,7 +36,10 @@ enum-known-q : tie.Need-enum-known-q
 enum-known-q c = search needs
 
 height-place-requires : tie.Need-height-place-requires
-height-place-requires c κs = search needs
+height-place-requires c κs =
+    let r = c .before .before .before in
+    let s = r .before .before in
+    height-few (s .args .second) (s .args .level) (s .args .code .now) (s .pre .some) (s .pre .most) (answered r (c .before .q .given .1))
 
 returns : tie.Need-returns
 returns c =

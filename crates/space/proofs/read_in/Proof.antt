@@ -1,10 +1,8 @@
 -- `space::read_in` meets its contract. Assumes nothing.
 use mathlib.Core.Path.{_∙_, ap}
-use native.Mathlib.Omega.{arith}
 use lib.ListN.{length}
 use Rattle.grid.specs.Answers as answers
-use Rattle.space.specs.inner.Asking.{SpaceRoom}
-use Rattle.space.proofs.Reading.{Leveled, leveled, read-none, read-joined}
+use Rattle.space.proofs.Reading.{Leveled, leveled, spaced, read-none, read-joined}
 use borrow.Author.Needs.{needs}
 use Rattle.space.proofs.read_in.Statement.{statement}
 use Rattle.space.proofs.read_in.Tie as tie
@@ -12,10 +10,6 @@ use Rattle.space.proofs.read_in.Tie as tie
 -- the level that was found is the code's
 known : (c : tie.Else1) → Leveled (length (c .before .before .before .args .code .now)) (c .before .level-of .result)
 known c = leveled _ (c .before .level-of .ensures) (c .if1 .left)
-
--- and the code has its places
-room : (c : tie.Else1) → SpaceRoom (c .before .level-of .result) (c .before .before .before .args .code .now)
-room c = let t = known c in record { level-low = t .low; level-high = t .high; room = omega (arith, t .long) }
 
 level-of-requires : tie.Need-level-of-requires
 level-of-requires c κs = search needs
@@ -27,10 +21,10 @@ returns : tie.Need-returns
 returns c = ap answers.refused (c .refuse .ensures) ∙ read-none _ (c .before .before .before .before .args .code .now) (c .before .before .level-of .ensures) (c .before .if1 .taken)
 
 height-of-requires : tie.Need-height-of-requires
-height-of-requires c κs = room c
+height-of-requires c κs = spaced (known c)
 
-plane-of-requires : tie.Need-plane-of-requires
-plane-of-requires c κs = room (c .before)
+read-in-space-requires : tie.Need-read-in-space-requires
+read-in-space-requires c κs = spaced (known (c .before))
 
 joined-requires : tie.Need-joined-requires
 joined-requires c κs = search needs
@@ -38,7 +32,7 @@ joined-requires c κs = search needs
 returns-2 : tie.Need-returns-2
 returns-2 c =
     let s = c .before .before .before .before .before .before in
-    read-joined (s .args .second) (s .args .code .now) (c .before .before .before .before .level-of .result) (known (c .before .before .before)) (c .joined .ensures) (c .before .plane-of .ensures) (c .before .before .height-of .ensures)
+    read-joined (s .args .second) (s .args .code .now) (c .before .before .before .before .level-of .result) (known (c .before .before .before)) (c .joined .ensures) (c .before .read-in-space .ensures) (c .before .before .height-of .ensures)
 
 pub read-in-spec : {M : Type 1} → statement M
 read-in-spec =
@@ -48,6 +42,6 @@ read-in-spec =
     refuse-requires
     returns
     height-of-requires
-    plane-of-requires
+    read-in-space-requires
     joined-requires
     returns-2)

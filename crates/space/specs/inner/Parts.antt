@@ -1,11 +1,10 @@
--- The two parts of a space code, its plane characters and its height characters: where each stands, and what both readers answer together.
+-- The two parts of a space code, its plane characters and its height characters: how they are woven, and what both readers answer together.
 -- Assumes nothing.
 use mathlib.Core.Bool.{true, false, cond}
-use mathlib.Core.List.{List, [], _∷_, map}
-use Prim.Native.Nat.{ℕ, zero, suc}
+use mathlib.Core.List.{List, [], _∷_}
+use Prim.Native.Nat.{ℕ}
 use lib.Dec.{ltb}
 use lib.IntN.{ℤ}
-use lib.ListN.{getD}
 use Rattle.grid.specs.declared.Refusal.{Refusal}
 use Rattle.grid.specs.declared.Split.{Split}
 use Rattle.grid.specs.declared.SpaceCell.{SpaceCell}
@@ -14,12 +13,13 @@ use Rattle.grid.specs.Splits.{splits}
 use Rattle.grid.specs.Codes.{placeIn}
 use Rattle.grid.specs.Answers.{Answer, accepted, refused, wrongCharacter}
 use Rattle.grid.specs.inner.Roads.{atPlace}
+use Rattle.grid.specs.inner.Standing.{planePlace, heightPlace}
 use Rattle.grid.specs.Layers.{Stack, floorOf, thicknessOf}
 use Rattle.grid.specs.Space.{spaceLengths}
 use Rattle.plane.specs.inner.Lengths.{orZero}
 use Rattle.space.specs.declared.Heights.{Heights}
 use Rattle.space.specs.declared.Heights.the-variants as heights
-use Rattle.space.specs.inner.Weave.{Strand, placeOne, placeTwo}
+use Rattle.space.specs.inner.Weave.{Strand}
 
 -- the level of the space codes that are n bytes long; 0 where there is none
 unfoldable pub spaceLevelOf : ℕ → ℕ
@@ -38,27 +38,6 @@ strandsOf (t ∷ ts) = record { lead = true; one = t .characters; two = 3 } ∷ 
 -- the strands of the ten levels
 abbrev pub tenStrands : List Strand
 tenStrands = strandsOf splits
-
--- the numbers below n, from k on
-abbrev pub countFrom : ℕ → ℕ → List ℕ
-countFrom k zero = []
-countFrom k (suc n) = k ∷ countFrom (suc k) n
-
--- the plane characters, and the height characters, of a space code of level 10; past a shorter code's end, 0
-abbrev pub planePart : List ℕ → List ℕ
-planePart w = map (λ p. getD w (placeOne tenStrands p) 0) (countFrom 0 20)
-
--- the height characters
-abbrev pub heightPart : List ℕ → List ℕ
-heightPart w = map (λ p. getD w (placeTwo tenStrands p) 0) (countFrom 0 12)
-
--- where a plane character, or a height character, stands in a space code; 0 for a place that there is not
-unfoldable pub planePlace : ℕ → ℕ
-planePlace p = cond (ltb p 20) (placeOne tenStrands p) 0
-
--- where a height character stands
-unfoldable pub heightPlace : ℕ → ℕ
-heightPlace p = cond (ltb p 12) (placeTwo tenStrands p) 0
 
 -- of two refusals, the one whose character stands first
 abbrev pub earlier : Refusal → Refusal → Refusal

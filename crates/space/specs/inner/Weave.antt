@@ -2,9 +2,9 @@
 -- Assumes nothing.
 use mathlib.Core.Bool.{Bool, cond}
 use mathlib.Core.List.{List, [], _∷_, _++_}
-use Prim.Native.Nat.{ℕ, suc, _+_, _-_, min}
+use Prim.Native.Nat.{ℕ, _+_, _-_, min}
 use lib.Dec.{ltb}
-use lib.ListN.{take, drop, set}
+use lib.ListN.{take, drop}
 use Rattle.grid.specs.Tree.{Read, ok, bad}
 use Rattle.grid.specs.Both.{mix, firstOf, secondOf, firstPlace, secondPlace}
 
@@ -57,14 +57,3 @@ together ts (ok a) (ok b) = ok (a, b)
 together ts (ok a) (bad q) = bad (placeTwo ts q)
 together ts (bad p) (ok b) = bad (placeOne ts p)
 together ts (bad p) (bad q) = bad (min (placeOne ts p) (placeTwo ts q))
-
--- ---- laid into a line
-
--- each digit of a part, from its digit k on, stored at its place in what is woven
-abbrev pub spread : (ℕ → ℕ) → ℕ → List ℕ → List ℕ → List ℕ
-spread place k [] l = l
-spread place k (c ∷ w) l = spread place (suc k) w (set l (place k) c)
-
--- a digit stored at a place, where the code has it
-abbrev pub stored : Bool → ℕ → ℕ → List ℕ → List ℕ
-stored some at c l = cond some (set l at c) l

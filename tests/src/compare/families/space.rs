@@ -17,6 +17,7 @@ pub fn families() -> Vec<Family> {
         fixed("space: every F place", 16, letter_f),
         fixed("space: every two-character step", 48, two_characters),
         fixed("space: every two-character step of edition 2", 12, two_characters_2),
+        fixed("space: two bad characters, every pair of places", 16, two_bad),
         fixed("space: lengths 0 to 60", 16, lengths),
         random("space: random ordinary squares", 3, |run| square(run, cases::ordinary)),
         random("space: random polar squares", 3, |run| square(run, cases::polar)),
@@ -177,6 +178,24 @@ fn two_characters_2(run: &mut Run, piece: u64) {
     let position = cases::places_of_each_kind()[4 * kind + at];
     let code = finest(Edition::Theirs, position, -999_999_999);
     each_two(&code[..LENGTHS[level - 1]], place, |code| run.space_read(2, code));
+}
+
+/// The plane's and the height's, in either order: the first decides.
+fn two_bad(run: &mut Run, piece: u64) {
+    let position = cases::places_of_each_kind()[piece as usize];
+    for edition in Edition::BOTH {
+        let good = finest(edition, position, -999_999_999);
+        for length in LENGTHS {
+            for first in 0..length {
+                for second in first + 1..length {
+                    let mut code = good;
+                    code[first] = b'Z';
+                    code[second] = b'?';
+                    run.space_read(edition as i64, &code[..length]);
+                }
+            }
+        }
+    }
 }
 
 fn lengths(run: &mut Run, piece: u64) {

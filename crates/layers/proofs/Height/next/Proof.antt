@@ -1,12 +1,22 @@
 -- `layers::Height::next` meets its contract. Assumes nothing.
 use Prim.Native.Nat.{_+_}
 use native.Mathlib.Omega.{arith}
+use lib.ListN.{getD}
+use Rattle.grid.specs.inner.Roads.{DigitBelow}
+use Rattle.layers.specs.inner.Steps.{standing}
+use Rattle.layers.proofs.Places.{place-in}
 use Rattle.layers.proofs.Reading.{sized, digit-at, upto-ended, upto-bad, upto-refused, upto-fits, upto-read}
 use Rattle.layers.proofs.Radices.{later-radix}
 use borrow.Author.Tests.{not-true, not-false}
 use borrow.Author.Needs.{needs}
 use Rattle.layers.proofs.Height.next.Statement.{statement}
 use Rattle.layers.proofs.Height.next.Tie as tie
+
+-- what tells the digit at its place among the height characters
+digit : (c : tie.After-digit-below) → let s = c .before .before .before .before .before .before .before in DigitBelow (getD (s .args .t2) (s .args .k) 0) (getD (standing (s .args .level) (s .args .code .now)) (s .args .k + 2) 0) (c .digit-below .result)
+digit c =
+    let s = c .before .before .before .before .before .before .before in
+    digit-at (s .pre .3) (s .args .k + 2) (omega (arith, c .before .before .before .before .before .if1 .left)) (c .before .before .height-place .ensures) (c .digit-below .ensures)
 
 returns : tie.Need-returns
 returns c =
@@ -24,22 +34,19 @@ mul-digit-below c = search needs
 array-read-digit-below : tie.Need-array-read-digit-below
 array-read-digit-below c = search needs
 
-add-digit-below : tie.Need-add-digit-below
-add-digit-below c = search needs
+add-height-place : tie.Need-add-height-place
+add-height-place c = search needs
 
-array-read-digit-below-2 : tie.Need-array-read-digit-below-2
-array-read-digit-below-2 c = search needs
-
-cast-digit-below : tie.Need-cast-digit-below
-cast-digit-below c = search needs
+height-place-requires : tie.Need-height-place-requires
+height-place-requires c κs = search needs
 
 shared-slice-read-digit-below : tie.Need-shared-slice-read-digit-below
 shared-slice-read-digit-below c =
-    let s = c .before .before .before .before .before in
-    s .pre .3 .reach (s .args .k + 2) (omega (arith, c .before .before .before .if1 .left))
+    let s = c .before .before .before .before .before .before in
+    place-in (s .args .level) (s .args .k + 2) (s .pre .3 .ten-levels) (s .pre .3 .room) (omega (arith, c .before .before .before .before .if1 .left)) (c .before .height-place .ensures)
 
 digit-below-requires : tie.Need-digit-below-requires
-digit-below-requires c κs = let s = c .before .before .before .before .before in later-radix (s .args .t2) (s .args .k) (s .pre .0) (s .pre .1) (s .pre .2) .few
+digit-below-requires c κs = let s = c .before .before .before .before .before .before in later-radix (s .args .t2) (s .args .k) (s .pre .0) (s .pre .1) (s .pre .2) .few
 
 mul-if3 : tie.Need-mul-if3
 mul-if3 c = search needs
@@ -55,8 +62,8 @@ refused-requires c κs = search needs
 
 returns-3 : tie.Need-returns-3
 returns-3 c =
-    let s = c .before .before .before .before .before .before .before .before in
-    upto-refused (s .args .t2) (s .args .level) (s .args .k) _ (s .pre .0) (s .pre .1) (s .pre .2) (sized (s .pre .3)) (c .before .before .before .before .before .before .if1 .left) (not-false (s .args .self .good) (c .before .before .before .before .if2 .left)) (s .pre .4) (digit-at (s .pre .3) (s .args .k + 2) (omega (arith, c .before .before .before .before .before .before .if1 .left)) (c .before .before .digit-below .ensures)) (c .before .if3 .taken) (c .refused .ensures)
+    let s = c .before .before .before .before .before .before .before .before .before in
+    upto-refused (s .args .t2) (s .args .level) (s .args .k) _ (s .pre .0) (s .pre .1) (s .pre .2) (sized (s .pre .3)) (c .before .before .before .before .before .before .before .if1 .left) (not-false (s .args .self .good) (c .before .before .before .before .before .if2 .left)) (s .pre .4) (digit (c .before .before)) (c .before .if3 .taken) (c .refused .ensures)
 
 add-thickness : tie.Need-add-thickness
 add-thickness c = search needs
@@ -64,25 +71,25 @@ add-thickness c = search needs
 thickness-requires : tie.Need-thickness-requires
 thickness-requires c κs = search needs
 
-add-t16 : tie.Need-add-t16
-add-t16 c = search needs
+add-t15 : tie.Need-add-t15
+add-t15 c = search needs
 
-mul-t15 : tie.Need-mul-t15
-mul-t15 c =
-    let s = c .before .before .before .before .before .before .before .before in
-    let f = upto-fits (s .args .t2) (s .args .level) (s .args .k) _ (s .pre .0) (s .pre .1) (s .pre .2) (sized (s .pre .3)) (c .before .before .before .before .before .before .if1 .left) (not-false (s .args .self .good) (c .before .before .before .before .if2 .left)) (s .pre .4) _ (c .thickness .ensures) _ (digit-at (s .pre .3) (s .args .k + 2) (omega (arith, c .before .before .before .before .before .before .if1 .left)) (c .before .before .digit-below .ensures)) (c .before .if3 .left) in
+mul-t13 : tie.Need-mul-t13
+mul-t13 c =
+    let s = c .before .before .before .before .before .before .before .before .before in
+    let f = upto-fits (s .args .t2) (s .args .level) (s .args .k) _ (s .pre .0) (s .pre .1) (s .pre .2) (sized (s .pre .3)) (c .before .before .before .before .before .before .before .if1 .left) (not-false (s .args .self .good) (c .before .before .before .before .before .if2 .left)) (s .pre .4) _ (c .thickness .ensures) _ (digit (c .before .before)) (c .before .if3 .left) in
     omega arith
 
-add-t27 : tie.Need-add-t27
-add-t27 c =
-    let s = c .before .before .before .before .before .before .before .before .before in
-    let f = upto-fits (s .args .t2) (s .args .level) (s .args .k) _ (s .pre .0) (s .pre .1) (s .pre .2) (sized (s .pre .3)) (c .before .before .before .before .before .before .before .if1 .left) (not-false (s .args .self .good) (c .before .before .before .before .before .if2 .left)) (s .pre .4) _ (c .before .thickness .ensures) _ (digit-at (s .pre .3) (s .args .k + 2) (omega (arith, c .before .before .before .before .before .before .before .if1 .left)) (c .before .before .before .digit-below .ensures)) (c .before .before .if3 .left) in
+add-t22 : tie.Need-add-t22
+add-t22 c =
+    let s = c .before .before .before .before .before .before .before .before .before .before in
+    let f = upto-fits (s .args .t2) (s .args .level) (s .args .k) _ (s .pre .0) (s .pre .1) (s .pre .2) (sized (s .pre .3)) (c .before .before .before .before .before .before .before .before .if1 .left) (not-false (s .args .self .good) (c .before .before .before .before .before .before .if2 .left)) (s .pre .4) _ (c .before .thickness .ensures) _ (digit (c .before .before .before)) (c .before .before .if3 .left) in
     omega arith
 
 returns-4 : tie.Need-returns-4
 returns-4 c =
-    let s = c .before .before .before .before .before .before .before .before .before in
-    upto-read (s .args .t2) (s .args .level) (s .args .k) _ (s .pre .0) (s .pre .1) (s .pre .2) (sized (s .pre .3)) (c .before .before .before .before .before .before .before .if1 .left) (not-false (s .args .self .good) (c .before .before .before .before .before .if2 .left)) (s .pre .4) _ (c .before .thickness .ensures) _ (digit-at (s .pre .3) (s .args .k + 2) (omega (arith, c .before .before .before .before .before .before .before .if1 .left)) (c .before .before .before .digit-below .ensures)) (c .before .before .if3 .left) (s .args .k + 3)
+    let s = c .before .before .before .before .before .before .before .before .before .before in
+    upto-read (s .args .t2) (s .args .level) (s .args .k) _ (s .pre .0) (s .pre .1) (s .pre .2) (sized (s .pre .3)) (c .before .before .before .before .before .before .before .before .if1 .left) (not-false (s .args .self .good) (c .before .before .before .before .before .before .if2 .left)) (s .pre .4) _ (c .before .thickness .ensures) _ (digit (c .before .before .before)) (c .before .before .if3 .left) (s .args .k + 3)
 
 pub next-spec : {M : Type 1} → statement M
 next-spec =
@@ -92,9 +99,8 @@ next-spec =
     returns-2
     mul-digit-below
     array-read-digit-below
-    add-digit-below
-    array-read-digit-below-2
-    cast-digit-below
+    add-height-place
+    height-place-requires
     shared-slice-read-digit-below
     digit-below-requires
     mul-if3
@@ -104,7 +110,7 @@ next-spec =
     returns-3
     add-thickness
     thickness-requires
-    add-t16
-    mul-t15
-    add-t27
+    add-t15
+    mul-t13
+    add-t22
     returns-4)

@@ -12,6 +12,9 @@ sub-at c = search needs
 columns-requires : tie.Need-columns-requires
 columns-requires c κs = search needs
 
+level-place-requires : tie.Need-level-place-requires
+level-place-requires c κs = search needs
+
 shared-slice-read-decimal-value : tie.Need-shared-slice-read-decimal-value
 shared-slice-read-decimal-value c = search needs
 
@@ -22,17 +25,13 @@ settled-requires : tie.Need-settled-requires
 settled-requires c κs = search needs
 
 returns : tie.Need-returns
-returns c =
-    let s = c .before .before .before .before .before .before .before in
-    reads-as (one-quad (s .args .self) (s .args .s) (s .args .code .now) (c .before .before .before .before .columns .ensures) (omega (arith, s .pre .0 .next, s .pre .1)) (s .pre .0 .digits) (s .pre .1) (s .pre .2) (c .before .before .decimal-value .ensures) (c .before .if1 .taken)) (c .settled .ensures)
+returns c = let s = c .before .before .before .before .before .before .before .before in reads-as (one-quad (s .pre .0) (s .pre .1) (c .before .before .before .before .before .columns .ensures) (c .before .before .before .before .level-place .ensures) (c .before .before .decimal-value .ensures) (c .before .if1 .taken)) (c .settled .ensures)
 
 settled-requires-2 : tie.Need-settled-requires-2
 settled-requires-2 c κs = search needs
 
 returns-2 : tie.Need-returns-2
-returns-2 c =
-    let s = c .before .before .before .before .before .before .before .before in
-    reads-as (one-trio (s .args .self) (s .args .s) (s .args .code .now) (c .before .before .before .before .before .columns .ensures) (omega (arith, s .pre .0 .next, s .pre .1)) (s .pre .0 .digits) (s .pre .1) (s .pre .2) (c .before .before .before .decimal-value .ensures) (c .before .before .if1 .left) (omega arith) (omega arith)) (c .settled2 .ensures)
+returns-2 c = let s = c .before .before .before .before .before .before .before .before .before in reads-as (one-trio (s .pre .0) (s .pre .1) (c .before .before .before .before .before .before .columns .ensures) (c .before .before .before .before .before .level-place .ensures) (c .before .before .before .decimal-value .ensures) (c .before .before .if1 .left) (omega arith) (omega arith)) (c .settled2 .ensures)
 
 sub-settled : tie.Need-sub-settled
 sub-settled c = search needs
@@ -41,9 +40,7 @@ settled-requires-3 : tie.Need-settled-requires-3
 settled-requires-3 c κs = search needs
 
 returns-3 : tie.Need-returns-3
-returns-3 c =
-    let s = c .before .before .before .before .before .before .before .before in
-    reads-as (one-trio (s .args .self) (s .args .s) (s .args .code .now) (c .before .before .before .before .before .columns .ensures) (omega (arith, s .pre .0 .next, s .pre .1)) (s .pre .0 .digits) (s .pre .1) (s .pre .2) (c .before .before .before .decimal-value .ensures) (c .before .before .if1 .left) (omega arith) (omega arith)) (c .settled3 .ensures)
+returns-3 c = let s = c .before .before .before .before .before .before .before .before .before in reads-as (one-trio (s .pre .0) (s .pre .1) (c .before .before .before .before .before .before .columns .ensures) (c .before .before .before .before .before .level-place .ensures) (c .before .before .before .decimal-value .ensures) (c .before .before .if1 .left) (omega arith) (omega arith)) (c .settled3 .ensures)
 
 pub one-spec : {M : Type 1} → statement M
 one-spec =
@@ -51,6 +48,7 @@ one-spec =
     (tie.spec
     sub-at
     columns-requires
+    level-place-requires
     shared-slice-read-decimal-value
     decimal-value-requires
     settled-requires
