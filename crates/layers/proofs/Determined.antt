@@ -17,7 +17,7 @@ use Rattle.layers.specs.declared.LayersRead.the-variants as layers-as
 use Rattle.layers.specs.declared.AskedEdition.{AskedEdition}
 use Rattle.layers.specs.declared.AskedEdition.the-variants as edition-as
 use Rattle.layers.specs.inner.Editions.{radicesOf, editionAsked}
-use Rattle.layers.specs.Heights.{askedOf, layerAsked, heightAnswer, layersAnswer}
+use Rattle.layers.specs.Heights.{askedOf, layerAsked, heightRead, layersRead}
 
 asked-one : (a b : AskedLayer) → layerAsked a ≡ layerAsked b → a ≡ b
 asked-one (layer-as.At p m) (layer-as.At q n) e =
@@ -30,14 +30,14 @@ asked-one (layer-as.Refused r) (layer-as.Refused q) e = cc
 pub layers-ask : (rs : List ℕ) (layer : ℤ) (a b : AskedLayer) → layerAsked a ≡ askedOf rs layer → layerAsked b ≡ askedOf rs layer → a ≡ b
 layers-ask rs layer a b e f = asked-one a b (e ∙ sym f)
 
-read-one : (a b : LayersRead) → layersAnswer a ≡ layersAnswer b → a ≡ b
+read-one : (a b : LayersRead) → layersRead a ≡ layersRead b → a ≡ b
 read-one (layers-as.Found p m x) (layers-as.Found q n y) e = cc
-read-one (layers-as.Found p m x) (layers-as.Refused r) e = clash (cc)
-read-one (layers-as.Refused r) (layers-as.Found q n y) e = clash (cc)
-read-one (layers-as.Refused r) (layers-as.Refused q) e = cc
+read-one (layers-as.Found p m x) (layers-as.Bad i) e = clash (cc)
+read-one (layers-as.Bad i) (layers-as.Found q n y) e = clash (cc)
+read-one (layers-as.Bad i) (layers-as.Bad j) e = cc
 
 pub layers-read : (rs : List ℕ) (level : ℕ) (digits : List ℕ) (a b : LayersRead)
-    → layersAnswer a ≡ heightAnswer rs level (map digitOf digits) → layersAnswer b ≡ heightAnswer rs level (map digitOf digits) → a ≡ b
+    → layersRead a ≡ heightRead rs level (map digitOf digits) → layersRead b ≡ heightRead rs level (map digitOf digits) → a ≡ b
 layers-read rs level digits a b e f = read-one a b (e ∙ sym f)
 
 pub layers-floor : (rs : List ℕ) (above : Bool) (low : ℕ) (a b : ℤ)

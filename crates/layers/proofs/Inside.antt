@@ -1,6 +1,6 @@
 -- The layers that height digits lead to lie in the range: what the test of the radices says to the laws of layers.
 -- Assumes nothing.
-use mathlib.Core.Path.{_≡_, refl, _∙_}
+use mathlib.Core.Path.{_≡_, refl}
 use mathlib.Core.Bool.{Bool, true, _&&_}
 use mathlib.Core.List.{List, [], _∷_, map}
 use Prim.Native.Nat.{ℕ, zero, suc, _+_, _*_, _/_, _≤_, _<_}
@@ -8,13 +8,12 @@ use native.Mathlib.Nat.{mul-div-right}
 use lib.Dec.{ltb, leb, eqb}
 use lib.ListN.{take}
 use borrow.Author.Tests.{ltb-true, lt-ltb, le-leb, eq-eqb}
-use Rattle.grid.specs.Tree.{Read, ok, bad}
-use Rattle.grid.specs.Answers.{accepted}
-use Rattle.grid.specs.Layers.{product, Stack, all, part, Radix, layers}
+use Rattle.grid.specs.Tree.{ok}
+use Rattle.grid.specs.Layers.{product, all, part, Radix, layers}
 use Rattle.grid.proofs.Cut.{clash}
 use Rattle.grid.proofs.Laws.{follow-good}
 use Rattle.grid.proofs.LayerLaws.{fitsPart, fitsAll, layer-laws}
-use Rattle.layers.specs.Heights.{laterHeight, heightLevels, heightRead, stackAnswer, heightAnswer}
+use Rattle.layers.specs.Heights.{laterHeight, heightLevels, heightRead}
 use Rattle.layers.specs.inner.Steps.{fairLater, Fair, thicknessAt}
 use Rattle.layers.proofs.Radices.{later-fair, first-fair, product-some, thick-some}
 
@@ -42,13 +41,8 @@ levels-fit (r ∷ rs) (suc l) e =
     one-fits 100 r rs (take l (map laterHeight rs)) (f .more) (f .few) (f .rest) (later-fits rs l (f .rest))
 
 -- what is read is some of the layers above ground, or below it
-pub read-inside : (rs : List ℕ) (l : ℕ) (ds : List ℕ) {a : Bool} {low n : ℕ} → Fair rs → heightAnswer rs l ds ≡ accepted (part a low n) → (0 < n) × (low + n ≤ product rs)
+pub read-inside : (rs : List ℕ) (l : ℕ) (ds : List ℕ) {a : Bool} {low n : ℕ} → Fair rs → heightRead rs l ds ≡ ok (part a low n) → (0 < n) × (low + n ≤ product rs)
 unfolding heightRead
-read-inside rs l ds {a} {low} {n} e r = go (heightRead rs l ds) refl r
-  where
-    go : (x : Read Stack) → heightRead rs l ds ≡ x → stackAnswer x ≡ accepted (part a low n) → (0 < n) × (low + n ≤ product rs)
-    go (ok m) p q =
-        let s : ok m ≡ ok (part a low n) = cc in
-        let g = follow-good (layers (product rs)) (layer-laws (product rs)) (take l (heightLevels rs)) all ds (part a low n) (levels-fit rs l e) (p ∙ s) in
-        (ltb-true 0 n (g .even), g .fit)
-    go (bad p) f q = clash (cc)
+read-inside rs l ds {a} {low} {n} e r =
+    let g = follow-good (layers (product rs)) (layer-laws (product rs)) (take l (heightLevels rs)) all ds (part a low n) (levels-fit rs l e) r in
+    (ltb-true 0 n (g .even), g .fit)

@@ -1,5 +1,5 @@
 -- A layer that is asked for, and the layers that height characters lead to, over any list of radices (document 01, "Layers and the space code").
--- The answers of `layers` in document 01's numbers.
+-- What `layers` answers.
 -- Assumes nothing.
 use mathlib.Core.Bool.{Bool}
 use mathlib.Core.List.{List, [], _∷_, map}
@@ -10,7 +10,7 @@ use lib.ListN.{take}
 use Rattle.grid.specs.declared.Refusal.{Refusal}
 use Rattle.grid.specs.Units.{side, index}
 use Rattle.grid.specs.Tree.{Read, ok, bad, follow}
-use Rattle.grid.specs.Answers.{Answer, accepted, refused, refusal, unless, wrongCharacter}
+use Rattle.grid.specs.Answers.{Answer, accepted, refused, refusal, unless}
 use Rattle.grid.specs.Layers.{product, rise, Stack, all, part, Radix, layers}
 use Rattle.layers.specs.declared.AskedLayer.{AskedLayer}
 use Rattle.layers.specs.declared.AskedLayer.the-variants as layer-as
@@ -47,16 +47,7 @@ heightLevels (r ∷ rs) = record { characters = 3; radix = r } ∷ map laterHeig
 unfoldable pub heightRead : List ℕ → ℕ → List ℕ → Read Stack
 heightRead rs l ds = follow (layers (product rs)) (take l (heightLevels rs)) all ds
 
--- what was read, as an answer: the layers, or 7 with the place
-abbrev pub stackAnswer : Read Stack → Answer Stack
-stackAnswer (ok n) = accepted n
-stackAnswer (bad p) = refused (wrongCharacter p)
-
--- the layers that the height digits of a code of level l lead to, or 7 with the place among them
-abbrev pub heightAnswer : List ℕ → ℕ → List ℕ → Answer Stack
-heightAnswer rs l ds = stackAnswer (heightRead rs l ds)
-
--- the answer in the paper's numbers: so many layers from a lowest one on, or the refusal
-abbrev pub layersAnswer : LayersRead → Answer Stack
-layersAnswer (layers-as.Found above low thick) = accepted (part above low thick)
-layersAnswer (layers-as.Refused r) = refused r
+-- the same as the code has it: so many layers from a lowest one on, or the place
+abbrev pub layersRead : LayersRead → Read Stack
+layersRead (layers-as.Found above low thick) = ok (part above low thick)
+layersRead (layers-as.Bad p) = bad p

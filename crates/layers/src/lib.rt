@@ -10,7 +10,7 @@ ghost use lib.ListN.{length, getD};
 ghost use Rattle.grid.specs.Characters.{charOf, digitOf};
 ghost use Rattle.grid.specs.inner.Standing.{lengthIn, heightPlace, spreadBack};
 ghost use Rattle.grid.specs.Layers.{editionIn, product, rise, sign, part, floorOf};
-ghost use Rattle.layers.specs.Heights.{askedOf, layerAsked, stackAnswer, heightAnswer, layersAnswer};
+ghost use Rattle.layers.specs.Heights.{askedOf, layerAsked, heightRead, layersRead};
 ghost use Rattle.layers.specs.inner.Editions.{radicesOf, editionAsked};
 ghost use Rattle.layers.specs.inner.Steps.{Fair, thicknessAt, layerOf, heightDigits, firstHeight, laterHeightAt, HeightWritable, heightOf, standing, Readable, BadAt, HeightFirst, Upto};
 use grid::Refusal;
@@ -33,10 +33,10 @@ pub enum AskedLayer {
 }
 
 // What height characters lead to: layers above ground or below, the lowest one's rise, and how many they are;
-// or refusal 7, with the place of the first character that is not allowed.
+// or the place of the first that is not allowed, among them.
 pub enum LayersRead {
     Found(bool, u32, u32),
-    Refused(Refusal),
+    Bad(usize),
 }
 
 // The reading place, and the layers read so far.
@@ -278,12 +278,12 @@ impl Height {
 
     // What the reader answers.
     fn answer(self) -> LayersRead
-        ensures { λ r. ⌜ layersAnswer r ≡ stackAnswer (heightOf self) ⌝ }
+        ensures { λ r. ⌜ layersRead r ≡ heightOf self ⌝ }
     {
         if self.good {
             LayersRead::Found(self.above, self.low, self.thick)
         } else {
-            LayersRead::Refused(grid::wrong_character(self.place))
+            LayersRead::Bad(self.place)
         }
     }
 }
@@ -291,7 +291,7 @@ impl Height {
 // All the levels, over any radices.
 fn read_over(rs: [u32; 10], level: u32, code: &[u8]) -> LayersRead
     requires { ⌜ Fair rs × Readable level (now code) ⌝ }
-    ensures { λ r. ⌜ layersAnswer r ≡ heightAnswer rs level (map digitOf (standing level (now (code .entry)))) ⌝ }
+    ensures { λ r. ⌜ layersRead r ≡ heightRead rs level (map digitOf (standing level (now (code .entry)))) ⌝ }
 {
     Height::start(rs, level, code)
         .next(rs, level, 1, code)
@@ -306,10 +306,10 @@ fn read_over(rs: [u32; 10], level: u32, code: &[u8]) -> LayersRead
         .answer()
 }
 
-// The layers that the height characters of a space code of a level lead to; or refusal 7 with the place of the first that is not allowed, among these alone.
+// The layers that the height characters of a space code of a level lead to; or the place of the first that is not allowed, among these alone.
 pub fn read(second: bool, level: u32, code: &[u8]) -> LayersRead
     requires { ⌜ Readable level (now code) ⌝ }
-    ensures { λ r. ⌜ layersAnswer r ≡ heightAnswer (radicesOf second) level (map digitOf (standing level (now (code .entry)))) ⌝ }
+    ensures { λ r. ⌜ layersRead r ≡ heightRead (radicesOf second) level (map digitOf (standing level (now (code .entry)))) ⌝ }
 {
     read_over(radices_of(second), level, code)
 }

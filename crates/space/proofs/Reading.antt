@@ -13,31 +13,30 @@ use lib.Seq.{length-take-le}
 use borrow.Author.Tests.{ltb-true, ltb-false, eqb-true}
 use Rattle.grid.specs.declared.Cell.{Cell}
 use Rattle.grid.specs.declared.SpaceCell.{SpaceCell}
-use Rattle.grid.specs.declared.Refusal.{Refusal}
 use Rattle.grid.specs.Characters.{digitOf}
 use Rattle.grid.specs.Tree.{Read, ok, bad, follow}
-use Rattle.grid.specs.Answers.{Answer, accepted, refused, wrongLength, wrongCharacter}
+use Rattle.grid.specs.Answers.{Answer, refused, wrongLength, wrongCharacter}
 use Rattle.grid.specs.Codes.{placeIn, answer, answerAt, readIn}
 use Rattle.grid.specs.Splits.{splits, splitAt}
 use Rattle.grid.specs.Plane.{Node, globe, plane, planeCodes, cellOf}
 use Rattle.grid.specs.Layers.{ours, Stack, all, part, layers}
 use Rattle.grid.specs.Space.{space, spaceCodes, spaceCellOf, spaceLengths}
 use Rattle.grid.specs.inner.Standing.{planePlace, heightPlace, countFrom, planeIn}
-use Rattle.grid.proofs.Cut.{clash, below}
+use Rattle.grid.proofs.Cut.{below}
 use Rattle.grid.proofs.Standing.{given-length}
 use Rattle.grid.proofs.Laws.{total, follow-ends}
 use Rattle.grid.proofs.PlaneLaws.{laws, splits-fit}
 use Rattle.grid.proofs.LayerLaws.{layer-laws}
 use Rattle.grid.proofs.Families.{level-length, length-level}
 use Rattle.grid.proofs.Theorems.{plane-sound, ours-fair, space-sound}
-use Rattle.layers.specs.Heights.{heightLevels, heightRead, stackAnswer, heightAnswer}
+use Rattle.layers.specs.Heights.{heightLevels, heightRead}
 use Rattle.layers.specs.inner.Editions.{radicesOf}
 use Rattle.layers.specs.inner.Steps.{standing}
 use Rattle.layers.proofs.Radices.{edition-fair}
 use Rattle.layers.proofs.Inside.{levels-fit, read-inside}
 use Rattle.plane.specs.inner.Lengths.{orZero, SpaceCode}
 use Rattle.space.specs.inner.Weave.{Strand, firsts, seconds, placeTwo, together}
-use Rattle.space.specs.inner.Parts.{spaceLevelOf, tenStrands, earlier, heightsAnswer, joinedAnswer}
+use Rattle.space.specs.inner.Parts.{spaceLevelOf, tenStrands, earlier, heightsIn, joinedAnswer}
 use Rattle.space.proofs.Tables.{length-at}
 use Rattle.space.proofs.Weaving.{sliced-one, sliced-two, parts-map, follow-woven}
 use Rattle.space.proofs.Parts.{
@@ -138,7 +137,7 @@ module _ (second : Bool) (l : ℕ) (low : 1 ≤ l) (high : l ≤ 10) where
 
   -- the two readings, as answers and together
   as-joined : (ra : Read Node) (rb : Read Stack) → ((p : ℕ) → ra ≡ bad p → p < splitAt (l - 1) .length) → ((q : ℕ) → rb ≡ bad q → q < 2 + l)
-      → unfold planeCodes spaceCodes in (answer (spaceCodes rs) l (together (take l tenStrands) ra rb) ≡ joinedAnswer (answer planeCodes l ra) (heightsAnswer top (stackAnswer rb)))
+      → unfold planeCodes spaceCodes in (answer (spaceCodes rs) l (together (take l tenStrands) ra rb) ≡ joinedAnswer (answer planeCodes l ra) (heightsIn top rb))
   unfolding planeCodes spaceCodes
   as-joined (ok n) (ok m) ha hb = refl
   as-joined (ok n) (bad q) ha hb = ap (λ (x : ℕ). refused (wrongCharacter x)) (height-place l C q (hb q refl))
@@ -166,7 +165,7 @@ module _ (second : Bool) (l : ℕ) (low : 1 ≤ l) (high : l ≤ 10) where
         ∙ rw (plane-levels second l, height-levels second l, level-strands second l, parts-map sliced-one digitOf S w, parts-map sliced-two digitOf S w) refl
 
     pub read-parts : placeIn (length w) 1 spaceLengths ≡ some l
-        → joinedAnswer (cellOf (planeIn true l w)) (heightsAnswer top (heightAnswer rs l (map digitOf (standing l w)))) ≡ spaceCellOf rs w
+        → joinedAnswer (cellOf (planeIn true l w)) (heightsIn top (heightRead rs l (map digitOf (standing l w)))) ≡ spaceCellOf rs w
     unfolding spaceCellOf readIn spaceCodes planeCodes
     read-parts q =
         let a = plane-same l C w long in
@@ -179,8 +178,8 @@ module _ (second : Bool) (l : ℕ) (low : 1 ≤ l) (high : l ≤ 10) where
         (λ p e. height-inside (map digitOf fb) p (length-map fb digitOf ∙ height-long l C w long) e)))
 
 -- the reader's answer, from its two parts' answers
-pub read-joined : (second : Bool) (w : List ℕ) (l : ℕ) → Leveled (length w) l → {r : Answer SpaceCell} {a : Answer Cell} {b : Answer (ℤ × ℕ)} → r ≡ joinedAnswer a b
-    → a ≡ cellOf (planeIn true l w) → b ≡ heightsAnswer (topOf second) (heightAnswer (radicesOf second) l (map digitOf (standing l w))) → r ≡ spaceCellOf (radicesOf second) w
+pub read-joined : (second : Bool) (w : List ℕ) (l : ℕ) → Leveled (length w) l → {r : Answer SpaceCell} {a : Answer Cell} {b : Read (ℤ × ℕ)} → r ≡ joinedAnswer a b
+    → a ≡ cellOf (planeIn true l w) → b ≡ heightsIn (topOf second) (heightRead (radicesOf second) l (map digitOf (standing l w))) → r ≡ spaceCellOf (radicesOf second) w
 read-joined second w l t {a = a} {b = b} e f g =
     e ∙ ap (λ x. joinedAnswer x b) f ∙ ap (λ x. joinedAnswer (cellOf (planeIn true l w)) x) g
     ∙ read-parts second l (t .low) (t .high) w (t .long) (t .place)
@@ -193,24 +192,10 @@ standing-long l w h =
     length-take-le (2 + l) (map f (countFrom 0 12)) (let z : length (map f (countFrom 0 12)) ≡ 12 = given-length f 12 in omega arith)
 
 -- layers that were read lie in their range
-pub lying : (second : Bool) (l : ℕ) (ds : List ℕ) {above : Bool} {low thick : ℕ} → accepted (part above low thick) ≡ heightAnswer (radicesOf second) l ds → low < topOf second
+pub lying : (second : Bool) (l : ℕ) (ds : List ℕ) {above : Bool} {low thick : ℕ} → ok (part above low thick) ≡ heightRead (radicesOf second) l ds → low < topOf second
 lying second l ds e = let r = read-inside (radicesOf second) l ds (edition-fair second) (sym e) in omega (arith, r .0, r .1)
 
--- a bad height character, at its place in the space code
-pub height-bad : (top : ℕ) (x : Read Stack) {q : Refusal} → refused q ≡ stackAnswer x → refused (wrongCharacter (heightPlace (q .place))) ≡ heightsAnswer top (stackAnswer x)
-height-bad top (ok n) e = clash (cc)
-height-bad top (bad p) {q} e = let z : q ≡ wrongCharacter p = cc in rw z refl
-
--- and stands among the twelve
-pub height-few : (second : Bool) (l : ℕ) (w : List ℕ) → 1 ≤ l → l ≤ 10 → {q : Refusal} → refused q ≡ heightAnswer (radicesOf second) l (map digitOf (standing l w)) → q .place < 12
-height-few second l w low high {q} e = go (heightRead (radicesOf second) l (map digitOf (standing l w))) refl e
-  where
-    long : length (map digitOf (standing l w)) ≡ 2 + l
-    long = length-map (standing l w) digitOf ∙ standing-long l w high
-
-    go : (x : Read Stack) → heightRead (radicesOf second) l (map digitOf (standing l w)) ≡ x → refused q ≡ stackAnswer x → q .place < 12
-    go (ok n) f e = clash (cc)
-    go (bad p) f e =
-        let z : q ≡ wrongCharacter p = cc in
-        let h : p < 2 + l = height-inside second l low high (map digitOf (standing l w)) p long f in
-        rw z (omega arith)
+-- a bad height character is one of the level's
+pub height-few : (second : Bool) (l : ℕ) (w : List ℕ) → 1 ≤ l → l ≤ 10 → {p : ℕ} → bad p ≡ heightRead (radicesOf second) l (map digitOf (standing l w)) → p < 2 + l
+height-few second l w low high {p} e =
+    height-inside second l low high (map digitOf (standing l w)) p (length-map (standing l w) digitOf ∙ standing-long l w high) (sym e)

@@ -8,19 +8,20 @@ ghost use Prim.Native.Nat.{_-_, _≤_, _<_};
 ghost use lib.ListN.{length, getD};
 ghost use lib.Seq.{sets};
 ghost use Rattle.grid.specs.Units.{HALF, QUARTER};
-ghost use Rattle.grid.specs.Answers.{accepted, refused, planeRead, wrongCharacter};
+ghost use Rattle.grid.specs.Tree.{ok, bad};
+ghost use Rattle.grid.specs.Answers.{accepted, planeRead};
 ghost use Rattle.grid.specs.Laying.{laid, written};
 ghost use Rattle.grid.specs.Space.{spaceCodeOf, spaceCellOf, spaceCellIn, spaceLengths};
 ghost use Rattle.grid.specs.inner.Roads.{squareOf};
 ghost use Rattle.grid.specs.Characters.{digitOf};
 ghost use Rattle.grid.specs.Layers.{product};
-ghost use Rattle.layers.specs.Heights.{heightAnswer};
+ghost use Rattle.layers.specs.Heights.{heightRead};
 ghost use Rattle.layers.specs.inner.Editions.{radicesOf};
 ghost use Rattle.layers.specs.inner.Steps.{layerOf, standing};
 ghost use Rattle.plane.specs.inner.Lengths.{SpaceCode};
 ghost use Rattle.space.specs.Space.{layeredText, spaceTextAt, spaceTextIn, spaceText, spaceRead};
 ghost use Rattle.space.specs.inner.Asking.{SpaceFits};
-ghost use Rattle.space.specs.inner.Parts.{spaceLevelOf, earlier, heightsAnswer, heightsRead, joinedAnswer};
+ghost use Rattle.space.specs.inner.Parts.{spaceLevelOf, earlier, heightsIn, heightsRead, joinedAnswer};
 use grid::Cell;
 use grid::Place;
 use grid::PlaneRead;
@@ -208,7 +209,7 @@ fn earlier(r: Refusal, q: Refusal) -> Refusal
 
 // The plane's answer over layers that were read: the cell with them, or the bad plane character.
 fn over_layers(a: PlaneRead, floor: i32, thick: u32) -> SpaceRead
-    ensures { λ r. ⌜ spaceRead r ≡ joinedAnswer (planeRead a) (accepted (floor, thick)) ⌝ }
+    ensures { λ r. ⌜ spaceRead r ≡ joinedAnswer (planeRead a) (ok (floor, thick)) ⌝ }
 {
     match a {
         PlaneRead::Found(c) => SpaceRead::Found(SpaceCell {
@@ -222,7 +223,7 @@ fn over_layers(a: PlaneRead, floor: i32, thick: u32) -> SpaceRead
 
 // A bad height character, unless a bad plane character stands before it.
 fn over_bad(a: PlaneRead, place: usize) -> SpaceRead
-    ensures { λ r. ⌜ spaceRead r ≡ joinedAnswer (planeRead a) (refused (wrongCharacter place)) ⌝ }
+    ensures { λ r. ⌜ spaceRead r ≡ joinedAnswer (planeRead a) (bad place) ⌝ }
 {
     let high = grid::wrong_character(place);
     match a {
@@ -247,13 +248,13 @@ fn joined(a: PlaneRead, h: Heights) -> SpaceRead
 // The height characters of a space code, read where they stand.
 fn height_of(second: bool, level: u32, code: &[u8]) -> Heights
     requires { ⌜ SpaceCode level (length (now code)) ⌝ }
-    ensures { λ r. ⌜ heightsRead r ≡ heightsAnswer (product (radicesOf second)) (heightAnswer (radicesOf second) level (map digitOf (standing level (now (code .entry))))) ⌝ }
+    ensures { λ r. ⌜ heightsRead r ≡ heightsIn (product (radicesOf second)) (heightRead (radicesOf second) level (map digitOf (standing level (now (code .entry))))) ⌝ }
 {
     match layers::read(second, level, code) {
         LayersRead::Found(above, low, thick) => {
             Heights::Found(layers::floor(second, above, low), thick)
         }
-        LayersRead::Refused(q) => Heights::Bad(grid::height_place(q.place)),
+        LayersRead::Bad(p) => Heights::Bad(grid::height_place(p)),
     }
 }
 

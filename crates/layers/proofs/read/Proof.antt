@@ -3,7 +3,7 @@ use mathlib.Core.Path.{_∙_, ap}
 use mathlib.Core.List.{List, map}
 use Prim.Native.Nat.{ℕ}
 use Rattle.grid.specs.Characters.{digitOf}
-use Rattle.layers.specs.Heights.{heightAnswer}
+use Rattle.layers.specs.Heights.{heightRead}
 use Rattle.layers.specs.inner.Steps.{standing}
 use Rattle.layers.proofs.Radices.{fair-by}
 use borrow.Author.Needs.{needs}
@@ -19,7 +19,7 @@ read-over-requires c κs = let s = c .before .before in (fair-by (s .args .secon
 returns : tie.Need-returns
 returns c =
     let s = c .before .before .before in
-    c .read-over .ensures ∙ ap (λ (rs : List ℕ). heightAnswer rs (s .args .level) (map digitOf (standing (s .args .level) (s .args .code .now)))) (c .before .radices-of .ensures)
+    c .read-over .ensures ∙ ap (λ (rs : List ℕ). heightRead rs (s .args .level) (map digitOf (standing (s .args .level) (s .args .code .now)))) (c .before .radices-of .ensures)
 
 pub read-spec : {M : Type 1} → statement M
 read-spec = tie.close (tie.spec radices-of-requires read-over-requires returns)

@@ -1,7 +1,6 @@
 -- `layers::read_over` meets its contract: each call reads its level. Assumes nothing.
-use mathlib.Core.Path.{_∙_, ap}
+use mathlib.Core.Path.{_∙_}
 use native.Mathlib.Omega.{arith}
-use Rattle.layers.specs.Heights.{stackAnswer}
 use Rattle.layers.proofs.Reading.{sized, upto-all}
 use borrow.Author.Needs.{needs}
 use Rattle.layers.proofs.read_over.Statement.{statement}
@@ -41,7 +40,7 @@ answer-requires : tie.Need-answer-requires
 answer-requires c κs = search needs
 
 returns : tie.Need-returns
-returns c = let s = c .before .before .before .before .before .before .before .before .before .before .before .before in c .answer .ensures ∙ ap stackAnswer (upto-all (s .args .rs) (s .args .level) _ (s .pre .0) (sized (s .pre .1)) (c .before .next9 .ensures))
+returns c = let s = c .before .before .before .before .before .before .before .before .before .before .before .before in c .answer .ensures ∙ upto-all (s .args .rs) (s .args .level) _ (s .pre .0) (sized (s .pre .1)) (c .before .next9 .ensures)
 
 pub read-over-spec : {M : Type 1} → statement M
 read-over-spec =

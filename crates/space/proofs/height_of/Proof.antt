@@ -9,17 +9,17 @@ use Rattle.grid.specs.Layers.{product}
 use Rattle.layers.specs.declared.LayersRead.{LayersRead}
 use Rattle.layers.specs.inner.Editions.{radicesOf}
 use Rattle.layers.specs.inner.Steps.{standing}
-use Rattle.layers.specs.Heights.{heightRead, heightAnswer, layersAnswer}
-use Rattle.space.specs.inner.Parts.{heightsAnswer}
-use Rattle.space.proofs.Reading.{lying, height-bad, height-few}
+use Rattle.layers.specs.Heights.{heightRead, layersRead}
+use Rattle.space.specs.inner.Parts.{heightsIn}
+use Rattle.space.proofs.Reading.{lying, height-few}
 use borrow.Author.Needs.{needs}
 use Rattle.space.proofs.height_of.Statement.{statement}
 use Rattle.space.proofs.height_of.Tie as tie
 
 -- what was read of the height characters
 answered : (c : tie.After-read) {h : LayersRead} → c .read .result ≡ h
-    → let s = c .before .before in layersAnswer h ≡ heightAnswer (radicesOf (s .args .second)) (s .args .level) (map digitOf (standing (s .args .level) (s .args .code .now)))
-answered c e = ap layersAnswer (sym e) ∙ c .read .ensures
+    → let s = c .before .before in layersRead h ≡ heightRead (radicesOf (s .args .second)) (s .args .level) (map digitOf (standing (s .args .level) (s .args .code .now)))
+answered c e = ap layersRead (sym e) ∙ c .read .ensures
 
 read-requires : tie.Need-read-requires
 read-requires c κs = let d = c .before .pre in record { some-level = d .some; ten-levels = d .most; room = omega (arith, d .long) }
@@ -32,28 +32,26 @@ floor-requires c κs =
     let r = c .before .before .before in
     lying (r .before .before .args .second) (r .before .before .args .level) _ (answered r (c .before .above .given .1))
 
-enum-known-q : tie.Need-enum-known-q
-enum-known-q c = search needs
+enum-known-p : tie.Need-enum-known-p
+enum-known-p c = search needs
 
 height-place-requires : tie.Need-height-place-requires
 height-place-requires c κs =
     let r = c .before .before .before in
     let s = r .before .before in
-    height-few (s .args .second) (s .args .level) (s .args .code .now) (s .pre .some) (s .pre .most) (answered r (c .before .q .given .1))
+    omega (arith, height-few (s .args .second) (s .args .level) (s .args .code .now) (s .pre .some) (s .pre .most) (answered r (c .before .p .given .1)), s .pre .most)
 
 returns : tie.Need-returns
 returns c =
     let r = c .before .before .before .before in
     let top = product (radicesOf (r .before .before .args .second)) in
     rw (toZ-ofZ {w = w32} {z = c .floor .result} (record { sfits = c .floor .ok }), c .floor .ensures (c .before .before .above .given .0 .1 .1 .0))
-    (ap (heightsAnswer top) (answered r (c .before .before .above .given .1)))
+    (ap (heightsIn top) (answered r (c .before .before .above .given .1)))
 
 returns-2 : tie.Need-returns-2
 returns-2 c =
     let r = c .before .before .before .before in
-    let s = r .before .before in
-    rw (c .height-place .ensures)
-    (height-bad (product (radicesOf (s .args .second))) (heightRead (radicesOf (s .args .second)) (s .args .level) _) (answered r (c .before .before .q .given .1)))
+    rw (c .height-place .ensures) (ap (heightsIn (product (radicesOf (r .before .before .args .second)))) (answered r (c .before .before .p .given .1)))
 
 pub height-of-spec : {M : Type 1} → statement M
 height-of-spec =
@@ -62,7 +60,7 @@ height-of-spec =
     read-requires
     enum-known-above
     floor-requires
-    enum-known-q
+    enum-known-p
     height-place-requires
     returns
     returns-2)

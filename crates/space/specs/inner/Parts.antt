@@ -11,6 +11,7 @@ use Rattle.grid.specs.declared.SpaceCell.{SpaceCell}
 use Rattle.grid.specs.declared.Cell.{Cell}
 use Rattle.grid.specs.Splits.{splits}
 use Rattle.grid.specs.Codes.{placeIn}
+use Rattle.grid.specs.Tree.{Read, ok, bad}
 use Rattle.grid.specs.Answers.{Answer, accepted, refused, wrongCharacter}
 use Rattle.grid.specs.inner.Roads.{atPlace}
 use Rattle.grid.specs.inner.Standing.{planePlace, heightPlace}
@@ -43,27 +44,23 @@ tenStrands = strandsOf splits
 abbrev pub earlier : Refusal → Refusal → Refusal
 earlier r q = cond (ltb (r .place) (q .place)) r q
 
--- a refusal of the plane characters, and one of the height characters, at its place in the space code
+-- a refusal of the plane characters, at its place in the space code
 abbrev pub ofPlane : Refusal → Refusal
 ofPlane r = atPlace (planePlace (r .place)) r
 
--- of the height characters
-abbrev pub ofHeight : Refusal → Refusal
-ofHeight q = atPlace (heightPlace (q .place)) q
-
--- the height reader's answer, where `top` layers lie above ground: the lowest layer and how many there are, or the bad character's place in the space code
-abbrev pub heightsAnswer : ℕ → Answer Stack → Answer (ℤ × ℕ)
-heightsAnswer top (accepted m) = accepted (floorOf top m, thicknessOf top m)
-heightsAnswer top (refused q) = refused (ofHeight q)
+-- what was read of the height, where `top` layers lie above ground: the lowest layer and how many there are, or the bad character's place in the space code
+abbrev pub heightsIn : ℕ → Read Stack → Read (ℤ × ℕ)
+heightsIn top (ok m) = ok (floorOf top m, thicknessOf top m)
+heightsIn top (bad p) = bad (heightPlace p)
 
 -- the same as the code has it
-abbrev pub heightsRead : Heights → Answer (ℤ × ℕ)
-heightsRead (heights.Found floor thick) = accepted (floor, thick)
-heightsRead (heights.Bad p) = refused (wrongCharacter p)
+abbrev pub heightsRead : Heights → Read (ℤ × ℕ)
+heightsRead (heights.Found floor thick) = ok (floor, thick)
+heightsRead (heights.Bad p) = bad p
 
--- the answers of the plane reader and of the height reader together: the cell with its layers, or the first bad character of either
-abbrev pub joinedAnswer : Answer Cell → Answer (ℤ × ℕ) → Answer SpaceCell
-joinedAnswer (accepted c) (accepted h) = accepted (record { cell = c; floor = h .0; thickness = h .1 })
-joinedAnswer (accepted c) (refused q) = refused q
-joinedAnswer (refused r) (accepted h) = refused (ofPlane r)
-joinedAnswer (refused r) (refused q) = refused (earlier (ofPlane r) q)
+-- what the plane reader answers and the height reader finds, together: the cell with its layers, or the first bad character of either
+abbrev pub joinedAnswer : Answer Cell → Read (ℤ × ℕ) → Answer SpaceCell
+joinedAnswer (accepted c) (ok h) = accepted (record { cell = c; floor = h .0; thickness = h .1 })
+joinedAnswer (accepted c) (bad p) = refused (wrongCharacter p)
+joinedAnswer (refused r) (ok h) = refused (ofPlane r)
+joinedAnswer (refused r) (bad p) = refused (earlier (ofPlane r) (wrongCharacter p))
