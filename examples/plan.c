@@ -1,5 +1,5 @@
 /* A worked example: the cell that a flight over a tower holds, and its neighbour, from a receiver's arc-seconds; the book of what flights hold; a
- * survey at the pole and at 180 degrees; and an altimeter's code.
+ * survey at the pole and at 180 degrees; an altimeter's code; and codes that were heard wrong.
  *
  *     cc -I ../target/hailgully plan.c ../target/hailgully/libhailgully.a -o plan && ./plan
  */
@@ -74,8 +74,12 @@ int main(void) {
     printf("altimeter: layers %d to %lld\n", (int)theirs.floor, (long long)theirs.floor + theirs.thickness - 1);
     refused("in edition 1", ours.refusal);
 
-    /* A code that was heard wrong: the board shows where. */
-    hg_plane_cell bad = hg_plane_read((const uint8_t *)"N61A", 4);
-    refused("N61A", bad.refusal);
+    /* Codes that were heard wrong by radio: the board shows which character, and whether it is garbled or stands in the wrong place. */
+    const char *heard[] = {"N61A", "N31-"};
+    for (int i = 0; i < 2; i++) {
+        hg_refusal bad = hg_plane_read((const uint8_t *)heard[i], 4).refusal;
+        if (bad.number == HG_GARBLED) printf("%s: character %llu is garbled\n", heard[i], (unsigned long long)bad.place);
+        if (bad.number == HG_MISPLACED) printf("%s: character %llu is misplaced\n", heard[i], (unsigned long long)bad.place);
+    }
     return 0;
 }

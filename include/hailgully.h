@@ -12,9 +12,13 @@
  * every code of edition 1 can be read in edition 2 too, mostly as other layers.
  *
  * Every call takes any numbers and any bytes, and answers with a result or with exactly one refusal. Nothing is clipped.
- * A refusal's number says why (the enum below). Its place is the first bad character for HG_CHARACTER and the first conflicting record for
- * HG_CONFLICT, each counted from 0, else 0. Its ordinal is 2 where HG_LENGTH or HG_CHARACTER speaks of a second code, else 1. On a refusal every
- * other field is 0, and no byte that was lent is changed. On success the refusal's three numbers are 0.
+ * A refusal's number says why (the enum below). Its place is the first bad character for HG_GARBLED and HG_MISPLACED and the first
+ * conflicting record for HG_CONFLICT, each counted from 0, else 0. Its ordinal is 2 where HG_LENGTH, HG_GARBLED or HG_MISPLACED speaks of a second
+ * code, else 1. On a refusal every other field is 0, and no byte that was lent is changed. On success the refusal's three numbers are 0.
+ *
+ * A character that no code goes on with at its place is bad: HG_GARBLED where it belongs to no code, HG_MISPLACED where it is a code character, 0 to 9
+ * or A to V, and only stands in the wrong place. The first bad character of a code decides. A hyphen is right at a reference code's hyphen, and
+ * garbled anywhere else. The two stand at one place in every order of refusals: `7 or 20`.
  *
  * A line is lent as its first byte and its length; a writer writes from the place `at` on, and the bytes before it and after the code stay. No zero
  * byte is written after a code: its length is what the call answers.
@@ -41,7 +45,7 @@ extern "C" {
 #endif
 
 #define HG_VERSION_MAJOR 0
-#define HG_VERSION_MINOR 5
+#define HG_VERSION_MINOR 6
 
 /* A refusal's number. */
 enum {
@@ -52,7 +56,7 @@ enum {
     HG_LAYER = 4,           /* layer outside its range, which is the edition's */
     HG_ROOM = 5,            /* from the place given, the line lacks bytes for the whole code; a place past the end counts as none */
     HG_LENGTH = 6,          /* a code's length is none of its kind */
-    HG_CHARACTER = 7,       /* a character is not allowed at its place, given those before it */
+    HG_GARBLED = 7,         /* a character belongs to no code: it is neither 0 to 9 nor A to V, nor a reference code's hyphen */
     HG_REFERENCE_CELL = 8,  /* a reference base or target is below level 5 or polar */
     HG_LEVELS_DIFFER = 9,   /* base and target levels differ */
     HG_OFFSET = 10,         /* either offset is beyond 7 */
@@ -64,7 +68,8 @@ enum {
     HG_CONFLICT = 16,       /* a live record shares a unit cube and a minute with what is asked */
     HG_ALL_LIVE = 17,       /* every record is live, as in a book of no records */
     HG_NOT_LIVE = 18,       /* no live record has the flight number */
-    HG_BOOK_TOO_LONG = 19   /* the book has more than 256 records */
+    HG_BOOK_TOO_LONG = 19,  /* the book has more than 256 records */
+    HG_MISPLACED = 20       /* a code character is not allowed at its place, given those before it */
 };
 
 /* Ranges, in units and layers; each end belongs to its range. Layers are those of edition 1, and with a 2 behind them those of edition 2. */
@@ -131,23 +136,25 @@ HG_LAID_OUT(sizeof(hg_booked) == 24 && offsetof(hg_booked, at) == 16);
  * Example: level 8 at (857549557, 294861578) is N50J47539B825534, 16 bytes; level 1 at (1327104000, 0), as at (-1327104000, 0), is N01A. */
 hg_written hg_plane_write(int64_t level, int64_t longitude, int64_t latitude, uint8_t *line, size_t length, size_t at);
 
-/* Reads a plane code. Refusals, in order: 6, 7. West lies from -180 degrees to below 180, and the cell runs eastward from it, past 180 if need be.
- * Example: N31A is level 1, west 0, south 0, width 44236800, height 29491200. */
+/* Reads a plane code. Refusals, in order: 6, 7 or 20. West lies from -180 degrees to below 180, and the cell runs eastward from it, past 180 if need
+ * be.
+ * Example: N31A is level 1, west 0, south 0, width 44236800, height 29491200; N61A is refused, 20 at place 2, and n31A 7 at place 0. */
 hg_plane_cell hg_plane_read(const uint8_t *code, size_t length);
 
 /* Writes the space code of an edition and a level for a position and a layer. Refusals, in order: 1, 13, 2, 3, 4, 5.
  * Example: level 4 at (0, 0), layer 1966080, is N031A0000001001 in edition 1 and N031A000000000F in edition 2. */
 hg_written hg_space_write(int64_t edition, int64_t level, int64_t longitude, int64_t latitude, int64_t layer, uint8_t *line, size_t length, size_t at);
 
-/* Reads a space code of an edition. Refusals, in order: 13, 6, 7. The floor is the lower face.
+/* Reads a space code of an edition. Refusals, in order: 13, 6, 7 or 20. The floor is the lower face.
  * Example: N131A63 is N31A's cell with floor -29491200 and thickness 29491200 in edition 1, -33554432 and 33554432 in edition 2. */
 hg_space_cell hg_space_read(int64_t edition, const uint8_t *code, size_t length);
 
-/* Writes the reference code that leads from a base code to a target code. Refusals, in order: 6, 7 of the base; 6, 7 of the target; 8, 9, 10, 5.
+/* Writes the reference code that leads from a base code to a target code. Refusals, in order: 6, 7 or 20 of the base; 6, 7 or 20 of the target; 8, 9,
+ * 10, 5.
  * Example: from N50J475492E to N50J475493E is N50J475492E-10. */
 hg_written hg_reference_write(const uint8_t *base, size_t base_length, const uint8_t *target, size_t target_length, uint8_t *line, size_t length, size_t at);
 
-/* Reads a reference code and writes the plane code of its target. Refusals, in order: 6, 7, 8, 12, 5.
+/* Reads a reference code and writes the plane code of its target. Refusals, in order: 6, 7 or 20, 8, 12, 5.
  * Example: N31A0000000-0A leads to S31A0000000. */
 hg_written hg_reference_read(const uint8_t *code, size_t code_length, uint8_t *line, size_t length, size_t at);
 
@@ -156,18 +163,18 @@ hg_written hg_reference_read(const uint8_t *code, size_t code_length, uint8_t *l
  * Example: (-0.0001, 0.5) is longitude -1, latitude 1024; (648000, 324000) is longitude 1327104000, latitude 663552000, which the writers take. */
 hg_units hg_arcseconds(double longitude, double latitude);
 
-/* The box of a plane code in arc-seconds, exactly. Refusals, in order: 6, 7.
+/* The box of a plane code in arc-seconds, exactly. Refusals, in order: 6, 7 or 20.
  * Example: N31A is west 0, south 0, width 21600, height 14400. */
 hg_box hg_plane_box(const uint8_t *code, size_t length);
 
 /* Adds a reservation to a book: a flight holds a plane code's cell, with layers 0 to 1887436799, for the minutes from start to end, the end not
  * included. The first record that is not live is used: it becomes this reservation, with live mark 1, and no other byte changes. Refusals, in order:
- * 19, 6, 7, 14, 15, 16, 17.
+ * 19, 6, 7 or 20, 14, 15, 16, 17.
  * Example: in a book of two zero records, flight 7 gets N31A from 600 to 660, at 0; then flight 8 and N31A00 from 659 to 700 are refused, 16 at place
  * 0, and from 660 to 700 they get it, at 1. */
 hg_booked hg_book_add_plane(const uint8_t *code, size_t code_length, uint32_t flight, uint32_t start, uint32_t end, hg_reservation *book, size_t length);
 
-/* The same with a space code of edition 1, whose cell has layers of its own. Refusals, in order: 19, 6, 7, 14, 15, 16, 17.
+/* The same with a space code of edition 1, whose cell has layers of its own. Refusals, in order: 19, 6, 7 or 20, 14, 15, 16, 17.
  * Example: where flight 7 holds N31A from 600 to 660, flight 9 gets N131A63 for these minutes, since its layers, -29491200 to -1, are below ground;
  * N031A00 is refused, 16. */
 hg_booked hg_book_add_space(const uint8_t *code, size_t code_length, uint32_t flight, uint32_t start, uint32_t end, hg_reservation *book, size_t length);

@@ -1,5 +1,5 @@
-/* Document 01's cases P1 to P13, its run cases, the examples of source 000, clause 8.1, and document 02's Wishes 1 to 3, asked of the library as
- * it is linked.
+/* Document 01's cases P1 to P13, its run cases, the examples of source 000, clause 8.1, and document 02's Wishes 1, 2, 3 and 5, asked of the library
+ * as it is linked.
  * Prints each case that comes out otherwise, and last how many there were; fails if there was one.
  */
 #include <inttypes.h>
@@ -96,10 +96,10 @@ static void editions(void) {
     layers(2, "N031A000000000F", "1966080 131072");
     layers(2, "N031A000000000000F", "122880 8192");
     layers(2, "N131A63", "-33554432 33554432");
-    layers(1, "N031A000000000F", "refused 7 14 1");
-    layers(1, "N031A000000000000F", "refused 7 17 1");
-    layers(2, "N031A000000000G", "refused 7 14 1");
-    layers(2, "N031A0000F", "refused 7 9 1");
+    layers(1, "N031A000000000F", "refused 20 14 1");
+    layers(1, "N031A000000000000F", "refused 20 17 1");
+    layers(2, "N031A000000000G", "refused 20 14 1");
+    layers(2, "N031A0000F", "refused 20 9 1");
     for (size_t i = 0; i < sizeof odd / sizeof odd[0]; i++) {
         space(odd[i], 0, 0, 0, 0, "refused 1 0 1");
         space(odd[i], 1, 0, 0, 0, "refused 13 0 1");
@@ -283,9 +283,9 @@ static void refusals(void) {
     release(999, RECORDS, "refused 19 0 1");
     add_plane("n31A0", 3, 1, 1, MOST, "refused 6 0 1");
     add_space("n031A0", 3, 1, 1, MOST, "refused 6 0 1");
-    add_plane("N00A", 3, 1, 1, MOST, "refused 7 3 1");
-    add_space("N031A64", 3, 1, 1, MOST, "refused 7 6 1");
-    add_space("N031A000000000F", 3, 1, 1, MOST, "refused 7 14 1"); /* a code of edition 2 */
+    add_plane("N00A", 3, 1, 1, MOST, "refused 20 3 1");
+    add_space("N031A64", 3, 1, 1, MOST, "refused 20 6 1");
+    add_space("N031A000000000F", 3, 1, 1, MOST, "refused 20 14 1"); /* a code of edition 2 */
     add_plane("N31A", 3, 1, 1, MOST, "refused 14 0 1");
     add_plane("N31A", 3, UINT32_MAX, 0, MOST, "refused 14 0 1");
     add_plane("N31A", 3, 1, 2, MOST, "refused 15 0 1");
@@ -348,6 +348,82 @@ static void globe(void) {
     add_plane("N01A", 2, 0, 100, 2, "at 1");
 }
 
+/* The refusal of a plane code, "refused number place", and of its box. */
+static void bad(const char *code, const char *wanted) {
+    char got[80];
+    hg_refusal r = hg_plane_box((const uint8_t *)code, strlen(code)).refusal;
+    snprintf(got, sizeof got, "refused %" PRIu32 " %" PRIu64, r.number, r.place);
+    held(strcmp(got, wanted) == 0 && r.ordinal == 1, code, got);
+    cell(code, wanted);
+}
+
+/* A reference code that is read, and one that is written. */
+static void led(const char *code, const char *wanted) {
+    uint8_t line[HG_REFERENCE_MOST];
+    written(hg_reference_read((const uint8_t *)code, strlen(code), line, sizeof line, 0), line, wanted);
+}
+
+static void related(const char *base, const char *target, const char *wanted) {
+    uint8_t line[HG_REFERENCE_MOST];
+    written(hg_reference_write((const uint8_t *)base, strlen(base), (const uint8_t *)target, strlen(target), line, sizeof line, 0), line, wanted);
+}
+
+/* Wish 5: 7 is a garbled character and 20 a misplaced one, and the first bad one decides, in every call that reads a code. */
+static void kinds(void) {
+    held(HG_GARBLED == 7 && HG_MISPLACED == 20, "HG_GARBLED and HG_MISPLACED", "other numbers");
+    for (int byte = 1; byte < 256; byte++) {
+        int counts = (byte >= '0' && byte <= '9') || (byte >= 'A' && byte <= 'V');
+        char first[] = "N60A", third[] = "N60A";
+        first[0] = third[2] = (char)byte;
+        if (byte != 'N' && byte != 'S') bad(first, counts ? "refused 20 0" : "refused 7 0");
+        if (byte != '0') bad(third, counts ? "refused 20 2" : "refused 7 2");
+    }
+    bad("N00A", "refused 20 3");
+    bad("n31A", "refused 7 0");
+    bad("N31W", "refused 7 3");
+    bad("N31-", "refused 7 3");
+    bad("N7?A", "refused 20 1");
+    bad("N?7A", "refused 7 1");
+    bad("NV-A", "refused 20 1");
+    bad("N-VA", "refused 7 1");
+    bad("N00000010", "refused 20 8"); /* row 0 of a cap with another column */
+    bad("S0000000000v", "refused 7 11");
+    bad("N7?A0", "refused 6 0");
+    for (int64_t edition = 1; edition <= 2; edition++) {
+        layers(edition, "N031A64", "refused 20 6 1");
+        layers(edition, "N031A6-", "refused 7 6 1");
+        layers(edition, "NV-1A00", "refused 20 1 1"); /* the sign, and a plane character after it */
+        layers(edition, "N-V1A00", "refused 7 1 1");
+        layers(edition, "N0V1A?0", "refused 20 2 1"); /* a plane character, and a height after it */
+        layers(edition, "N0?1AV0", "refused 7 2 1");
+        layers(edition, "N0?1AV", "refused 6 0 1");
+    }
+    layers(3, "N0?1AV0", "refused 13 0 1");
+    led("N31A0000000V10", "refused 20 11 1"); /* in place of the hyphen */
+    led("N31A0000000+10", "refused 7 11 1");
+    led("N31A0000000--0", "refused 7 12 1");
+    led("N31A0000000-80", "refused 20 12 1");
+    led("N31A0000000-8?", "refused 20 12 1");
+    led("N31A0000000-?8", "refused 7 12 1");
+    led("N31A0000000-1H", "refused 20 13 1");
+    led("N31A000000--10", "refused 7 10 1");
+    led("N31A000000V-?0", "refused 20 10 1");
+    led("N31A-1V", "refused 20 6 1"); /* before 8 */
+    led("N31A-10", "refused 8 0 1");
+    related("N00A", "n31A", "refused 20 3 1"); /* the base first */
+    related("n31A", "N00A", "refused 7 0 1");
+    related("N31A", "N00A", "refused 20 3 2");
+    related("N31A", "N31-", "refused 7 3 2");
+    related("N31A", "NV?A", "refused 20 1 2");
+    related("N31A", "", "refused 6 0 2");
+    memset(book, 0, sizeof book);
+    add_plane("N61A", 3, 1, 1, MOST, "refused 20 2 1"); /* before 14 */
+    add_plane("N6-A", 3, 1, 1, MOST, "refused 7 2 1");
+    add_space("N031AV-", 3, 1, 1, MOST, "refused 20 5 1");
+    add_space("N031A-V", 3, 1, 1, MOST, "refused 7 5 1");
+    add_plane("N61A", 3, 1, 1, RECORDS, "refused 19 0 1");
+}
+
 int main(void) {
     plane(10, 0, 0, "N31A0000000000000000");                        /* P1 */
     plane(10, -1, 0, "N30A0000000000000000");                       /* P2 */
@@ -380,8 +456,8 @@ int main(void) {
     reference("N50J475491E", "N50J475492E", "N50J475491E-10");
     reference("N50J475493E", "N50J475491E", "N50J475493E-B0");
     reference("N50J475493E", "N50J475492E", "N50J475493E-A0");
-    cell("N00A", "refused 7 3");                                    /* run */
-    cell("N61A", "refused 7 2");
+    cell("N00A", "refused 20 3");                                   /* run, with the numbers of Wish 5 */
+    cell("N61A", "refused 20 2");
     cell("", "refused 6 0");
     cell("n31A", "refused 7 0");
     cell("N31A", "1 0 0 44236800 29491200");
@@ -390,6 +466,7 @@ int main(void) {
     day();
     refusals();
     globe();
+    kinds();
     printf("%d cases, %d otherwise\n", asked, wrong);
     return wrong != 0;
 }

@@ -27,7 +27,7 @@ def lines():
     for code in ORDINARY + POLAR + CAPS:
         yield from (code[:n] for n in LENGTHS)
     for code in (ORDINARY[4], POLAR[0], CAPS[0]):
-        yield from (code[:k] + b"F" + code[k + 1:] for k in range(20))
+        yield from (code[:k] + bad + code[k + 1:] for bad in (b"F", b"-") for k in range(20))
         yield from (code[:k] for k in range(21))
         yield from (code + b"0" * k for k in (1, 2, 44))
     yield from BAD

@@ -37,6 +37,7 @@ mkdir folder
 case_of 'standard input' 0 "$sheet" '' '"$run" <one'
 case_of 'empty input' 0 '' '' '"$run" </dev/null'
 case_of 'a carriage return is a byte like any other' 0 'refused 6 0' '' '"$run" three'
+case_of 'misplaced and garbled characters' 0 $'refused 20 3\nrefused 20 2\nrefused 7 3' '' 'printf "N00A\nN61A\nN31-" | "$run"'
 case_of 'a full output' 1 '' 'run: *cannot be written*No space left*' '"$run" <one >/dev/full'
 case_of 'a full output for a file' 1 '' 'run: *cannot be written*No space left*many?' '"$run" many >/dev/full'
 case_of 'a closed output' 1 '' 'run: *output is closed' '"$run" <one >&-'

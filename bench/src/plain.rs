@@ -17,6 +17,13 @@ impl Refusal {
     pub fn new(number: u32, place: u64) -> Refusal {
         Refusal { number, ordinal: 1, place }
     }
+
+    /// The character at a place of a code is not allowed there: 20 where it is a code character, else 7.
+    #[cold]
+    pub fn wrong(code: &[u8], place: usize) -> Refusal {
+        let number = if matches!(code[place], b'0'..=b'9' | b'A'..=b'V') { 20 } else { 7 };
+        Refusal::new(number, place as u64)
+    }
 }
 
 #[derive(Clone, Copy, PartialEq, Debug)]
@@ -204,7 +211,7 @@ macro_rules! digit {
     ($code:ident, $place:expr, $bound:expr) => {{
         let v = if $bound <= 10 { $code[$place].wrapping_sub(48) as u32 } else { value($code[$place]) };
         if v >= $bound {
-            return Err(Refusal::new(7, $place as u64));
+            return Err(Refusal::wrong($code, $place));
         }
         v
     }};
@@ -294,20 +301,20 @@ pub fn read(code: &[u8]) -> Result<Cell, Refusal> {
     let south = match code[0] {
         b'N' => false,
         b'S' => true,
-        _ => return Err(Refusal::new(7, 0)),
+        _ => return Err(Refusal::wrong(code, 0)),
     };
     let tens = digit!(code, 1, 7);
     let ones = digit!(code, 2, 10);
     let z = 10 * tens + ones;
     if z > 60 {
-        return Err(Refusal::new(7, 2));
+        return Err(Refusal::wrong(code, 2));
     }
     if z == 0 {
         return Err(Refusal::new(REFUSED_POLAR, 0));
     }
     let row = digit!(code, 3, 32);
     if row < 10 {
-        return Err(Refusal::new(7, 3));
+        return Err(Refusal::wrong(code, 3));
     }
     let west = z < 31;
     let mut x = if west { 30 - z } else { z - 31 } * 44_236_800;

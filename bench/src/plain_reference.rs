@@ -54,7 +54,7 @@ fn cells(code: &[u8], place: usize) -> Result<i64, Refusal> {
     match value(code[place]) {
         v @ 0..=7 => Ok(v as i64),
         v @ 10..=16 => Ok(9 - v as i64),
-        _ => Err(Refusal::new(7, place as u64)),
+        _ => Err(Refusal::wrong(code, place)),
     }
 }
 
@@ -79,7 +79,7 @@ pub fn follow(code: &[u8], line: &mut [u8], at: usize) -> Result<usize, Refusal>
     let k = code.len() - 3;
     let b = read(&code[..k])?;
     if code[k] != b'-' {
-        return Err(Refusal::new(7, k as u64));
+        return Err(Refusal::wrong(code, k));
     }
     let (m, n) = (cells(code, k + 1)?, cells(code, k + 2)?);
     far_enough(&b)?;

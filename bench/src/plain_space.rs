@@ -255,7 +255,7 @@ macro_rules! digit {
     ($code:ident, $place:expr, $bound:expr) => {{
         let v = if $bound <= 10 { $code[$place].wrapping_sub(48) as u32 } else { value($code[$place]) };
         if v >= $bound {
-            return Err(Refusal::new(7, $place as u64));
+            return Err(Refusal::wrong($code, $place));
         }
         v
     }};
@@ -266,7 +266,7 @@ macro_rules! two_digits {
     ($code:ident, $place:expr, $greatest:expr) => {{
         let v = 10 * digit!($code, $place, 7) + digit!($code, $place + 1, 10);
         if v > $greatest {
-            return Err(Refusal::new(7, $place as u64 + 1));
+            return Err(Refusal::wrong($code, $place + 1));
         }
         v
     }};
@@ -351,7 +351,7 @@ fn read_in<E: Edition>(code: &[u8]) -> Result<Cell, Refusal> {
     let south = match code[0] {
         b'N' => false,
         b'S' => true,
-        _ => return Err(Refusal::new(7, 0)),
+        _ => return Err(Refusal::wrong(code, 0)),
     };
     let below = digit!(code, 1, 2) == 1;
     let z = two_digits!(code, 2, 60);
@@ -360,7 +360,7 @@ fn read_in<E: Edition>(code: &[u8]) -> Result<Cell, Refusal> {
     }
     let row = digit!(code, 4, 32);
     if row < 10 {
-        return Err(Refusal::new(7, 4));
+        return Err(Refusal::wrong(code, 4));
     }
     let west = z < 31;
     let x = if west { 30 - z } else { z - 31 } * 44_236_800;

@@ -99,7 +99,7 @@ pub fn over_2048(units: i64) -> u64 {
 }
 
 /// The box of a plane code: the bits of west, south, width, height in
-/// arc-seconds. Refusals 6, 7.
+/// arc-seconds. Refusals 6, 7 or 20.
 pub fn plane_box(code: &[u8]) -> Result<[u64; 4], Refusal> {
     let cell = plane::read(code)?;
     Ok([

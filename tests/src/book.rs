@@ -18,8 +18,9 @@ use std::ops::Range;
 /// "A slice of records that the scheduler lends, at most 256."
 pub const MOST: usize = 256;
 /// "19, book too long, before all others; for adding, then 6, 7; 14 ..; 15 ..;
-/// 16 ..; 17 ... For release: 18".
-const ADDING: [u32; 7] = [19, 6, 7, 14, 15, 16, 17];
+/// 16 ..; 17 ... For release: 18". 20 stands "at 7's old place in every order":
+/// of one code only one of the two applies.
+const ADDING: [u32; 8] = [19, 6, 7, 20, 14, 15, 16, 17];
 const RELEASING: [u32; 2] = [19, 18];
 
 /// "A record holds a live mark, flight number, plane cell, layer floor and
@@ -156,7 +157,7 @@ impl Reservation {
 impl Kind {
     pub const BOTH: [Kind; 2] = [Kind::Plane, Kind::Space];
 
-    /// Refusals 6, 7. "A plane code stands for layers 0 to 1,887,436,799."
+    /// Refusals 6, 7 or 20. "A plane code stands for layers 0 to 1,887,436,799."
     pub fn cell(self, code: &[u8]) -> Result<SpaceCell, Refusal> {
         let (floor, thickness) = match slips::current() {
             slips::COLUMN_SHORT => (0, 1_887_436_799),
@@ -170,11 +171,11 @@ impl Kind {
         }
     }
 
-    /// Whether a character is bad, whatever the length.
-    fn any_bad(self, code: &[u8]) -> bool {
+    /// The refusal of the first bad character, whatever the length.
+    fn bad(self, code: &[u8]) -> Option<Refusal> {
         match self {
-            Kind::Plane => plane::walk::whole(code).is_err(),
-            Kind::Space => space::any_bad(Edition::Ours, code),
+            Kind::Plane => plane::bad(code),
+            Kind::Space => space::bad(Edition::Ours, code),
         }
     }
 }
@@ -208,8 +209,8 @@ impl Request<'_> {
         let mut list = Vec::new();
         list.extend(too_long(book));
         list.extend(cell.err());
-        if cell.is_err_and(|given| given.number == 6) && self.kind.any_bad(self.code) {
-            list.push(refusal(7));
+        if cell.is_err_and(|given| given.number == 6) {
+            list.extend(self.kind.bad(self.code));
         }
         if self.start >= self.end {
             list.push(refusal(14));
@@ -246,7 +247,7 @@ impl Request<'_> {
                 book[at] = self.record(cell);
                 Ok(at)
             }
-            (given, ..) => Err(given.expect("a code that is not read gets 6 or 7, a book with nothing free 17")),
+            (given, ..) => Err(given.expect("a code that is not read gets 6, 7 or 20, a book with nothing free 17")),
         };
         (answer, applying)
     }
@@ -275,12 +276,13 @@ pub fn release(flight: u32, book: &mut [Reservation]) -> Answer {
 }
 
 /// The order of the refusals of adding, or a slip's.
-fn adding() -> [u32; 7] {
+fn adding() -> [u32; 8] {
     match slips::current() {
-        slips::CODE_BEFORE_BOOK => [6, 7, 19, 14, 15, 16, 17],
-        slips::FLIGHT_BEFORE_MINUTES => [19, 6, 7, 15, 14, 16, 17],
-        slips::CONFLICT_BEFORE_FLIGHT => [19, 6, 7, 14, 16, 15, 17],
-        slips::FULL_BEFORE_CONFLICT => [19, 6, 7, 14, 15, 17, 16],
+        slips::CODE_BEFORE_BOOK => [6, 7, 20, 19, 14, 15, 16, 17],
+        slips::FLIGHT_BEFORE_MINUTES => [19, 6, 7, 20, 15, 14, 16, 17],
+        slips::CONFLICT_BEFORE_FLIGHT => [19, 6, 7, 20, 14, 16, 15, 17],
+        slips::FULL_BEFORE_CONFLICT => [19, 6, 7, 20, 14, 15, 17, 16],
+        slips::MISPLACED_AFTER_MINUTES => [19, 6, 7, 14, 20, 15, 16, 17],
         _ => ADDING,
     }
 }

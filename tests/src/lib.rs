@@ -1,5 +1,5 @@
-//! The oracle: document 01, and of document 02 Wishes 1 to 3, written a second
-//! time, from the documents alone.
+//! The oracle: document 01, and of document 02 Wishes 1, 2, 3 and 5, written a
+//! second time, from the documents alone. Wish 4 changes no answer.
 //!
 //! Plane codes stand here twice. `plane::listing` lists every cell that a cell
 //! is divided into, just as the document describes them, and looks for the one

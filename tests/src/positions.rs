@@ -1,5 +1,5 @@
 //! The cases of document 01, "Positions to check", and those of Wishes 1 and 2
-//! of document 02, asked of the oracle.
+//! of document 02, asked of the oracle, with the numbers of Wish 5.
 
 use crate::arcseconds::{arcseconds, over_2048, plane_box};
 use crate::cases::{self, Random};
@@ -119,14 +119,14 @@ fn layers_of_editions() {
     assert_eq!(layers_of(2, "N131A63"), (-33_554_432, 33_554_432));
     assert_eq!(layers_of(2, "N131A00"), (-2_147_483_648, 33_554_432));
     assert_eq!(layers_of(2, "N031A000000000F"), (15 << 17, 1 << 17));
-    assert_eq!(space::read(1, b"N031A000000000F"), Err(bad(14)));
+    assert_eq!(space::read(1, b"N031A000000000F"), Err(misplaced(14)));
     assert_eq!(layers_of(2, "S131A630070100F00F"), (-8_192, 8_192));
-    assert_eq!(space::read(1, b"S131A630070100E00F"), Err(bad(17)));
-    assert_eq!(space::read(2, b"N031A000000000G"), Err(bad(14)));
+    assert_eq!(space::read(1, b"S131A630070100E00F"), Err(misplaced(17)));
+    assert_eq!(space::read(2, b"N031A000000000G"), Err(misplaced(14)));
     // F is a digit at levels 4 and 5 alone, and only of the height.
-    assert_eq!(space::read(2, b"N031A0000F"), Err(bad(9)));
-    assert_eq!(space::read(2, b"N031A0000000F00"), Err(bad(12)));
-    assert_eq!(space::read(2, b"N131A64"), Err(bad(6)));
+    assert_eq!(space::read(2, b"N031A0000F"), Err(misplaced(9)));
+    assert_eq!(space::read(2, b"N031A0000000F00"), Err(misplaced(12)));
+    assert_eq!(space::read(2, b"N131A64"), Err(misplaced(6)));
 }
 
 #[test]
@@ -156,26 +156,31 @@ fn p13() {
     assert_eq!(target("N30A0000000-10"), "N31A0000000");
 }
 
-fn bad(place: u64) -> Refusal {
+fn garbled(place: u64) -> Refusal {
     Refusal { place, ..refusal(7) }
+}
+
+fn misplaced(place: u64) -> Refusal {
+    Refusal { place, ..refusal(20) }
 }
 
 #[test]
 fn run_cases() {
-    assert_eq!(plane::read(b"N00A"), Err(bad(3)));
-    assert_eq!(plane::read(b"N61A"), Err(bad(2)));
-    assert_eq!(plane::read(b"N70A"), Err(bad(1)));
-    assert_eq!(plane::read(b"N31W"), Err(bad(3)));
+    assert_eq!(plane::read(b"N00A"), Err(misplaced(3)));
+    assert_eq!(plane::read(b"N61A"), Err(misplaced(2)));
+    assert_eq!(plane::read(b"n31A"), Err(garbled(0)));
+    assert_eq!(plane::read(b"N70A"), Err(misplaced(1)));
+    assert_eq!(plane::read(b"N31W"), Err(garbled(3)));
     assert_eq!(plane::read(b""), Err(refusal(6)));
-    // "Row 0 with a column other than 0 gets 7 at the row character."
-    assert_eq!(plane::read(b"N00000010"), Err(bad(8)));
-    assert_eq!(plane::read(b"S00000000001"), Err(bad(11)));
-    assert_eq!(space::read(1, b"N131A64"), Err(bad(6)));
-    assert_eq!(space::read(1, b"N131A70"), Err(bad(5)));
-    assert_eq!(space::read(1, b"N231A00"), Err(bad(1)));
+    // "Row 0 with a column other than 0 gets 7 at the row character": 20, as 0 is a code character.
+    assert_eq!(plane::read(b"N00000010"), Err(misplaced(8)));
+    assert_eq!(plane::read(b"S00000000001"), Err(misplaced(11)));
+    assert_eq!(space::read(1, b"N131A64"), Err(misplaced(6)));
+    assert_eq!(space::read(1, b"N131A70"), Err(misplaced(5)));
+    assert_eq!(space::read(1, b"N231A00"), Err(misplaced(1)));
     let mut line = [7; 30];
     assert_eq!(reference::read(b"N31A-10", &mut line, 0), Err(refusal(8)));
-    assert_eq!(reference::read(b"N31A0000000-H0", &mut line, 0), Err(bad(12)));
+    assert_eq!(reference::read(b"N31A0000000-H0", &mut line, 0), Err(misplaced(12)));
     assert_eq!(line, [7; 30]);
 }
 
@@ -224,6 +229,7 @@ fn pole_and_180() {
 fn lines_of_the_program() {
     let output = b"1 0 0 44236800 29491200\nrefused 7 0\nrefused 6 0\n";
     assert_eq!(lines::answers(b"N31A\nn31A\n\n"), output);
+    assert_eq!(lines::answers(b"N00A\nN61A\nN31-"), b"refused 20 3\nrefused 20 2\nrefused 7 3\n");
     assert_eq!(lines::answers(b""), b"");
     assert_eq!(lines::answers(b"\n"), b"refused 6 0\n");
     assert_eq!(lines::answers(b"N31A"), &output[..24]);

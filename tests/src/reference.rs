@@ -44,10 +44,15 @@ pub fn offsets(base: &PlaneCell, target: &PlaneCell) -> Option<(i64, i64)> {
     Some((east, north))
 }
 
-/// Reference writer: "6, 7 of the base; 6, 7 of the target; 8, 9, 10, 5".
+/// Reference writer: "6, 7 of the base; 6, 7 of the target; 8, 9, 10, 5", with
+/// 20 where 7 stands.
 pub fn write(base: &[u8], target: &[u8], line: &mut [u8], at: usize) -> Result<usize, Refusal> {
-    let from = plane::read(base)?;
-    let to = plane::read(target).map_err(of_second_code)?;
+    let to = || plane::read(target).map_err(of_second_code);
+    let from = plane::read(base).map_err(|bad| match slips::current() {
+        slips::TARGET_GARBLED_FIRST if bad.number == 20 => to().err().filter(|other| other.number == 7).unwrap_or(bad),
+        _ => bad,
+    })?;
+    let to = to()?;
     if slips::on(slips::LEVELS_BEFORE_POLAR) && from.level != to.level {
         return Err(refusal(9));
     }
@@ -82,16 +87,21 @@ pub fn parts(code: &[u8]) -> Result<(PlaneCell, i64, i64), Refusal> {
     };
     level_of(length).ok_or(refusal(6))?;
     let base = plane::read(&code[..length])?;
+    let bad = |place: usize| match (slips::current(), bad_character(place, code[place])) {
+        (slips::UNFIT_BEFORE_MISPLACED, Refusal { number: 20, .. }) if unfit(&base) => refusal(8),
+        (slips::HYPHEN_PLACE_GARBLED, bad) if place == length => Refusal { number: 7, ..bad },
+        (_, bad) => bad,
+    };
     if code[length] != b'-' {
-        return Err(bad_character(length));
+        return Err(bad(length));
     }
-    let east = offset(code[length + 1]).ok_or(bad_character(length + 1))?;
-    let north = offset(code[length + 2]).ok_or(bad_character(length + 2))?;
+    let east = offset(code[length + 1]).ok_or_else(|| bad(length + 1))?;
+    let north = offset(code[length + 2]).ok_or_else(|| bad(length + 2))?;
     Ok((base, east, north))
 }
 
-/// Reference reader: "6 (total less 3 is no plane length), 7, 8, 12, 5". "The
-/// reader writes the target's plane code."
+/// Reference reader: "6 (total less 3 is no plane length), 7, 8, 12, 5", with 20
+/// where 7 stands. "The reader writes the target's plane code."
 pub fn read(code: &[u8], line: &mut [u8], at: usize) -> Result<usize, Refusal> {
     let (base, east, north) = parts(code)?;
     if slips::on(slips::POLE_REACHED_FIRST) && reaches_pole(&base, north) {

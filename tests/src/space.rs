@@ -7,7 +7,7 @@ mod radices;
 
 use crate::plane::walk::Walk;
 use crate::plane::{self, refuse_level, refuse_position, square, within, PlaneCell, LONGITUDE};
-use crate::refusals::{bad_character, put, refusal, Refusal};
+use crate::refusals::{put, refusal, take_all, Refusal};
 use crate::slips;
 
 /// Lengths of the space codes of levels 1 to 10.
@@ -151,23 +151,29 @@ impl SpaceWalk {
     }
 }
 
-/// Walks all these characters: the end, or the place of the first bad one.
-fn whole(edition: Edition, code: &[u8]) -> Result<SpaceWalk, usize> {
-    let mut walk = SpaceWalk { plane: Walk::start(), heights: Heights::start(edition) };
-    for (place, &character) in code.iter().enumerate() {
-        let turn = *TURNS.get(place).ok_or(place)?;
-        let next = walk.take(turn, character);
-        let early = slips::on(slips::HEIGHT_64_AT_FIRST_DIGIT) && place == 6 && next.is_none();
-        let among = slips::on(slips::PLACE_AMONG_HEIGHTS) && turn != b'p';
-        let place = if among { TURNS[..place].iter().filter(|turn| **turn != b'p').count() } else { place };
-        walk = next.ok_or(if early { 5 } else { place })?;
-    }
-    Ok(walk)
+/// Walks all these characters, whatever their number: the end, or the first bad
+/// one's refusal.
+fn whole(edition: Edition, code: &[u8]) -> Result<SpaceWalk, Refusal> {
+    let start = SpaceWalk { plane: Walk::start(), heights: Heights::start(edition) };
+    let take = |walk: SpaceWalk, place: usize, character| walk.take(*TURNS.get(place)?, character);
+    take_all(code, start, take).map_err(|bad| Refusal { place: place(bad.place), ..bad })
 }
 
-/// Whether a character is bad, whatever the length.
-pub fn any_bad(edition: Edition, code: &[u8]) -> bool {
-    whole(edition, code).is_err()
+/// A bad character's place, or a slip's.
+fn place(place: u64) -> u64 {
+    let before = TURNS.iter().take(place as usize);
+    match slips::current() {
+        slips::HEIGHT_64_AT_FIRST_DIGIT if place == 6 => 5,
+        slips::PLACE_AMONG_HEIGHTS if TURNS.get(place as usize).is_some_and(|turn| *turn != b'p') => {
+            before.filter(|turn| **turn != b'p').count() as u64
+        }
+        _ => place,
+    }
+}
+
+/// The refusal of the first bad character, whatever the length.
+pub fn bad(edition: Edition, code: &[u8]) -> Option<Refusal> {
+    whole(edition, code).err()
 }
 
 /// The plane characters of a space code, and how many they are.
@@ -182,7 +188,7 @@ pub fn plane_part(code: &[u8]) -> ([u8; 20], usize) {
     (flat, length)
 }
 
-/// Whole-code reader: refusals 13, 6, 7.
+/// Whole-code reader: refusals 13, 6, 7 or 20.
 pub fn read(edition: i64, code: &[u8]) -> Result<SpaceCell, Refusal> {
     let named = Edition::named(edition);
     if !slips::on(slips::EDITION_AFTER_LENGTH) {
@@ -191,7 +197,7 @@ pub fn read(edition: i64, code: &[u8]) -> Result<SpaceCell, Refusal> {
     if level_of(code.len()).is_none() {
         return Err(refusal(6));
     }
-    let end = whole(named?, code).map_err(bad_character)?;
+    let end = whole(named?, code)?;
     let (floor, thickness) = end.heights.layers();
     Ok(SpaceCell { plane: end.plane.cell(), floor, thickness })
 }

@@ -44,8 +44,8 @@ pub enum Reason {
     Room = 5,
     /// a code's length is none of its kind
     Length = 6,
-    /// a character is not allowed at its place, given those before it
-    Character = 7,
+    /// a character belongs to no code: it is neither 0 to 9 nor A to V, nor a reference code's hyphen
+    Garbled = 7,
     /// a reference base or target is below level 5 or polar
     ReferenceCell = 8,
     /// base and target levels differ
@@ -70,17 +70,19 @@ pub enum Reason {
     NotLive = 18,
     /// the book has more than 256 records
     BookTooLong = 19,
+    /// a code character is not allowed at its place, given those before it
+    Misplaced = 20,
 }
 
 /// Each reason with its words: place n - 1 has number n.
-const REASONS: [(Reason, &str); 19] = [
+const REASONS: [(Reason, &str); 20] = [
     (Reason::Level, "level outside 1 to 10"),
     (Reason::Longitude, "longitude outside its range"),
     (Reason::Latitude, "latitude outside its range"),
     (Reason::Layer, "layer outside its range"),
     (Reason::Room, "from the place given, the line lacks bytes for the whole code"),
     (Reason::Length, "a code's length is none of its kind"),
-    (Reason::Character, "a character is not allowed at its place, given those before it"),
+    (Reason::Garbled, "a character belongs to no code"),
     (Reason::ReferenceCell, "a reference base or target is below level 5 or polar"),
     (Reason::LevelsDiffer, "base and target levels differ"),
     (Reason::Offset, "either offset is beyond 7"),
@@ -93,6 +95,7 @@ const REASONS: [(Reason, &str); 19] = [
     (Reason::AllLive, "every record is live"),
     (Reason::NotLive, "no live record has the flight number"),
     (Reason::BookTooLong, "the book has more than 256 records"),
+    (Reason::Misplaced, "a code character is not allowed at its place, given those before it"),
 ];
 
 /// A refusal: no result, and no byte that was lent was changed.
@@ -100,15 +103,16 @@ const REASONS: [(Reason, &str); 19] = [
 /// ```
 /// use hailgully::Reason;
 /// let refusal = hailgully::plane_read(b"N61A").unwrap_err();
-/// assert_eq!((refusal.reason, refusal.number(), refusal.place), (Reason::Character, 7, Some(2)));
-/// assert_eq!(refusal.to_string(), "refused 7 at place 2: a character is not allowed at its place, given those before it");
+/// assert_eq!((refusal.reason, refusal.number(), refusal.place), (Reason::Misplaced, 20, Some(2)));
+/// assert_eq!(refusal.to_string(), "refused 20 at place 2: a code character is not allowed at its place, given those before it");
+/// assert_eq!(hailgully::plane_read(b"n31A").unwrap_err().to_string(), "refused 7 at place 0: a character belongs to no code");
 /// ```
 #[derive(Clone, Copy, Debug, PartialEq, Eq, Hash)]
 pub struct Refusal {
     /// Why.
     pub reason: Reason,
-    /// The place of the first bad character for [`Reason::Character`], and of the first conflicting record for [`Reason::Conflict`], counted
-    /// from 0; no other reason has one.
+    /// The place of the first bad character for [`Reason::Garbled`] and [`Reason::Misplaced`], and of the first conflicting record for
+    /// [`Reason::Conflict`], counted from 0; no other reason has one.
     pub place: Option<usize>,
     /// 2 where a length or a character of a second code is meant, else 1.
     pub ordinal: u32,
@@ -122,7 +126,7 @@ impl Refusal {
 
     fn of(refusal: raw::HgRefusal) -> Refusal {
         let (reason, _) = REASONS[refusal.number as usize - 1];
-        let place = matches!(reason, Reason::Character | Reason::Conflict).then_some(refusal.place as usize);
+        let place = matches!(reason, Reason::Garbled | Reason::Misplaced | Reason::Conflict).then_some(refusal.place as usize);
         Refusal { reason, place, ordinal: refusal.ordinal }
     }
 }
@@ -229,13 +233,13 @@ pub fn plane_write(level: i64, longitude: i64, latitude: i64, line: &mut [u8], a
     written(raw::lent::plane_write(level, longitude, latitude, line, at))
 }
 
-/// Reads a plane code. Refusals, in order: 6, 7.
+/// Reads a plane code. Refusals, in order: 6, 7 or 20.
 ///
 /// ```
 /// let cell = hailgully::plane_read(b"N31A").unwrap();
 /// assert_eq!((cell.level, cell.west, cell.south, cell.width, cell.height), (1, 0, 0, 44_236_800, 29_491_200));
 /// let refusal = hailgully::plane_read(b"N61A").unwrap_err();
-/// assert_eq!((refusal.number(), refusal.place), (7, Some(2)));
+/// assert_eq!((refusal.number(), refusal.place), (20, Some(2)));
 /// ```
 pub fn plane_read(code: &[u8]) -> Result<PlaneCell, Refusal> {
     let c = raw::lent::plane_read(code);
@@ -267,7 +271,7 @@ pub fn space_write(
     written(raw::lent::space_write(edition, level, longitude, latitude, layer, line, at))
 }
 
-/// Reads a space code of an edition; the floor is the lower face. Refusals, in order: 13, 6, 7.
+/// Reads a space code of an edition; the floor is the lower face. Refusals, in order: 13, 6, 7 or 20.
 ///
 /// ```
 /// use hailgully::{space_read, Reason};
@@ -286,8 +290,8 @@ pub fn space_read(edition: i64, code: &[u8]) -> Result<SpaceCell, Refusal> {
     answer(c.refusal, SpaceCell { plane, floor: c.floor, thickness: c.thickness })
 }
 
-/// Writes the reference code that leads from a base to a target; the number of bytes. Refusals, in order: 6, 7 of the base; 6, 7 of the
-/// target; 8, 9, 10, 5.
+/// Writes the reference code that leads from a base to a target; the number of bytes. Refusals, in order: 6, 7 or 20 of the base; 6, 7
+/// or 20 of the target; 8, 9, 10, 5.
 ///
 /// ```
 /// let mut line = [0; 14];
@@ -298,7 +302,7 @@ pub fn reference_write(base: &[u8], target: &[u8], line: &mut [u8], at: usize) -
     written(raw::lent::reference_write(base, target, line, at))
 }
 
-/// Reads a reference code and writes the plane code of its target; the number of bytes. Refusals, in order: 6, 7, 8, 12, 5.
+/// Reads a reference code and writes the plane code of its target; the number of bytes. Refusals, in order: 6, 7 or 20, 8, 12, 5.
 ///
 /// ```
 /// let mut line = [0; 11];
@@ -328,7 +332,7 @@ pub fn arcseconds(longitude: f64, latitude: f64) -> Result<Units, Refusal> {
     answer(u.refusal, Units { longitude: u.longitude, latitude: u.latitude })
 }
 
-/// The box of a plane code in arc-seconds, exactly. Refusals, in order: 6, 7.
+/// The box of a plane code in arc-seconds, exactly. Refusals, in order: 6, 7 or 20.
 ///
 /// ```
 /// let b = hailgully::plane_box(b"N31A").unwrap();
@@ -340,7 +344,7 @@ pub fn plane_box(code: &[u8]) -> Result<ArcBox, Refusal> {
 }
 
 /// Adds a reservation to a book: a flight holds a plane code's cell, with layers 0 to 1,887,436,799, for the minutes from `start` to `end`,
-/// the end not included. The first record that is not live becomes this one; its place. Refusals, in order: 19, 6, 7, 14, 15, 16, 17.
+/// the end not included. The first record that is not live becomes this one; its place. Refusals, in order: 19, 6, 7 or 20, 14, 15, 16, 17.
 ///
 /// ```
 /// use hailgully::{book_add_plane, Reason, Reservation};
@@ -358,7 +362,7 @@ pub fn book_add_plane(code: &[u8], flight: u32, start: u32, end: u32, book: &mut
     booked(raw::lent::book_add_plane(code, flight, start, end, book))
 }
 
-/// The same with a space code of edition 1, whose cell has layers of its own. Refusals, in order: 19, 6, 7, 14, 15, 16, 17.
+/// The same with a space code of edition 1, whose cell has layers of its own. Refusals, in order: 19, 6, 7 or 20, 14, 15, 16, 17.
 ///
 /// ```
 /// use hailgully::{book_add_plane, book_add_space, Reason, Reservation};

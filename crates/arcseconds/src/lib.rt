@@ -160,7 +160,7 @@ pub fn box_of(c: Cell) -> ArcBox
     }
 }
 
-// What a plane reader's answer comes to: the cell's box, or the same refusal, 6 or 7.
+// What a plane reader's answer comes to: the cell's box, or the same refusal, 6, 7 or 20.
 fn box_answer(r: PlaneRead) -> BoxRead
     ensures { λ b. ⌜ BoxSays (planeRead r) b ⌝ }
 {
@@ -170,7 +170,7 @@ fn box_answer(r: PlaneRead) -> BoxRead
     }
 }
 
-// The box of a plane code in arc-seconds. Refusals 6 and 7, in that order.
+// The box of a plane code in arc-seconds. Refusals, in order: 6, 7 or 20.
 pub fn plane_box(code: &[u8]) -> BoxRead
     ensures { λ b. ⌜ BoxSays (cellOf (now (code .entry))) b ⌝ }
 {

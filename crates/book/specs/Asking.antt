@@ -37,11 +37,11 @@ abbrev pub reserved : ℕ → ℕ → ℕ → SpaceCell → Answer Reservation
 reserved flight start end s =
     unless (ltb start end) (refusal 14 0) (accepted (record { live = 1; flight = flight; space = s; start = start; end = end }))
 
--- by plane code: 6, 7, then 14; else the record of its cell over its layers
+-- by plane code: 6, 7 or 20, 14, else the record of its cell over its layers
 unfoldable pub planeRecord : List ℕ → ℕ → ℕ → ℕ → Answer Reservation
 planeRecord code flight start end = andThen (cellOf code) (λ c. reserved flight start end (column c))
 
--- by space code of edition 1: 6, 7, then 14; else the record of its space cell
+-- by space code of edition 1: 6, 7 or 20, 14, else the record of its space cell
 unfoldable pub spaceRecord : List ℕ → ℕ → ℕ → ℕ → Answer Reservation
 spaceRecord code flight start end = andThen (spaceCellOf ours code) (λ s. reserved flight start end s)
 

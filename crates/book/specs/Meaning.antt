@@ -28,7 +28,7 @@ pub record InColumn (c : Cell) (s : Cube) : Type 0 where
 
 -- why there is no record to add: the code's own refusal, else 14
 pub data WhyNone {C : Type 0} (read : Answer C) (start end : ℕ) : Refusal → Type 0 where
-  -- 6 or 7: the code is refused
+  -- 6, 7 or 20: the code is refused
   no-code : (r : Refusal) → read ≡ refused r → WhyNone read start end r
   -- 14: the start is not before the end
   no-minutes : (c : C) → read ≡ accepted c → end ≤ start → WhyNone read start end (refusal 14 0)

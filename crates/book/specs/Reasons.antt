@@ -44,7 +44,7 @@ pub record Ready (made : Answer Reservation) (book : List Reservation) (a : Rese
 pub data WhyAdd (made : Answer Reservation) (book : List Reservation) : Answer ℕ → Type 0 where
   -- 19: the book is too long
   add-too-long : 256 < length book → WhyAdd made book (refused (refusal 19 0))
-  -- 6, 7, 14: there is no record to add
+  -- 6, 7, 20, 14: there is no record to add
   no-record : length book ≤ 256 → (r : Refusal) → made ≡ refused r → WhyAdd made book (refused r)
   -- 15: the flight number is live already
   already : (a : Reservation) → Ready made book a → (k : ℕ) → FliesAt (a .flight) book k → WhyAdd made book (refused (refusal 15 0))

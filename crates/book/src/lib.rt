@@ -141,7 +141,7 @@ fn column(c: Cell) -> SpaceCell
     }
 }
 
-// Adding by plane code: 6, 7, 14, else a record to add.
+// Adding by plane code: 6, 7 or 20, 14, else a record to add.
 pub fn ask_plane(code: &[u8], flight: u32, start: u32, end: u32) -> Ask
     ensures { λ q. ⌜ q ≡ toAdd (planeRecord (now (code .entry)) flight start end) ⌝ }
 {
@@ -151,7 +151,7 @@ pub fn ask_plane(code: &[u8], flight: u32, start: u32, end: u32) -> Ask
     }
 }
 
-// Adding by space code of edition 1: 6, 7, 14, else a record to add.
+// Adding by space code of edition 1: 6, 7 or 20, 14, else a record to add.
 pub fn ask_space(code: &[u8], flight: u32, start: u32, end: u32) -> Ask
     ensures { λ q. ⌜ q ≡ toAdd (spaceRecord (now (code .entry)) flight start end) ⌝ }
 {

@@ -133,9 +133,9 @@ module _ (K : Codes) (S : Sound K) where
     pub read : follow (K .tree) (take l (K .levels)) (K .root) (map digitOf w) ≡ ok node
     pub same : K .cellAt l node ≡ c
 
-  answer-of : (l : ℕ) (r : Read (K .tree .Node)) (c : K .Cell) → answer K l r ≡ accepted c → (n : K .tree .Node) × (r ≡ ok n) × (K .cellAt l n ≡ c)
-  answer-of l (ok n) c e = (n, refl, cc)
-  answer-of l (bad p) c e = clash (cc)
+  answer-of : (w : List ℕ) (l : ℕ) (r : Read (K .tree .Node)) (c : K .Cell) → answer K w l r ≡ accepted c → (n : K .tree .Node) × (r ≡ ok n) × (K .cellAt l n ≡ c)
+  answer-of w l (ok n) c e = (n, refl, cc)
+  answer-of w l (bad p) c e = clash (cc)
 
   pub found : (w : List ℕ) (c : K .Cell) → readIn K w ≡ accepted c → Found w c
   unfolding readIn
@@ -145,7 +145,7 @@ module _ (K : Codes) (S : Sound K) where
       go none p e = clash (cc)
       go (some l) p e =
           let q = level-length (length w) l p in
-          let a = answer-of l (follow (K .tree) (take l (K .levels)) (K .root) (map digitOf w)) c e in
+          let a = answer-of w l (follow (K .tree) (take l (K .levels)) (K .root) (map digitOf w)) c e in
           record { l = l; low = q .0; high = q .1; long = q .2; node = a .0; read = a .1; same = a .2 }
 
   pub found-level : (w : List ℕ) (c : K .Cell) (f : Found w c) → S .level c ≡ f .l

@@ -115,7 +115,7 @@ pub record Ends (R : Tree) (ts : List (R .Level)) (n : R .Node) (w : List ℕ) (
 drop-take-add : (k j : ℕ) (w : List ℕ) → k ≤ length w → drop k (take (k + j) w) ≡ take j (drop k w)
 drop-take-add k j w h = ap (λ x. drop k x) (take-add k j w) ∙ drop-at (take k w) (take j (drop k w)) k (length-take-le k w h)
 
-shift-bad : {A : Type 0} (k : ℕ) (r : Read A) (p : ℕ) → shift k r ≡ bad p → (q : ℕ) × (r ≡ bad q) × (k + q ≡ p)
+pub shift-bad : {A : Type 0} (k : ℕ) (r : Read A) (p : ℕ) → shift k r ≡ bad p → (q : ℕ) × (r ≡ bad q) × (k + q ≡ p)
 shift-bad k (ok a) p e = clash (cc)
 shift-bad k (bad q) p e = (q, refl, cc)
 

@@ -15,10 +15,12 @@ pub mod Levels
 pub mod Covering
 pub mod Families
 pub mod Refusing
+pub mod Stopping
 pub mod LayerLaws
 pub mod Places
 pub mod BothLaws
 pub mod Theorems
+pub mod Belonging
 pub mod Ranges
 pub mod Answers
 pub mod Ends

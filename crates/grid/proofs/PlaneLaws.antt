@@ -149,7 +149,7 @@ cap-good t ts n h w m g e =
     let a = write-read (p .form) true p (λ c r. ringNode n p h c r) w m e in
     subst (λ (x : Node). Good ts x) (a .node) (ring-good ts (t .characters) p n h (cap-exact t ts h g) (g .fit) (q .0) (q .1) (a .c) (a .r) (a .fine))
 
-sheet-good : (ts : List Split) (n : Bool) (z r : ℕ) → fitsCell false ts 44236800 29491200 ≡ true → 1 ≤ z → z ≤ 60 → r < 22 → Good ts (sheet n z r)
+pub sheet-good : (ts : List Split) (n : Bool) (z r : ℕ) → fitsCell false ts 44236800 29491200 ≡ true → 1 ≤ z → z ≤ 60 → r < 22 → Good ts (sheet n z r)
 sheet-good ts n z r e a b c = go (leb 31 z) refl
   where
     go : (q : Bool) → leb 31 z ≡ q → Good ts (sheet n z r)

@@ -1,4 +1,4 @@
--- When the reader of a family of codes refuses with 6 and with 7, and where: for any family whose tree obeys the laws of one step.
+-- When the reader of a family of codes refuses with 6, with 7 and with 20, and where: for any family whose tree obeys the laws of one step.
 -- Assumes nothing.
 use mathlib.Core.Path.{_≡_, refl, sym, _∙_, ap, subst}
 use mathlib.Core.Bool.{Bool, true, false, cond, _||_}
@@ -8,16 +8,17 @@ use mathlib.Core.Logic.{_↔_, _⊎_, inl, inr}
 use Prim.Native.Nat.{ℕ, zero, suc, _≤_, _<_}
 use native.Mathlib.Omega.{arith}
 use lib.Dec.{ltb, eqb}
-use lib.ListN.{length, take, length-map}
+use lib.ListN.{length, take, getD, length-map}
 use lib.Seq.{take-take}
 use borrow.Author.Tests.{ltb-true, ltb-false}
-use Rattle.grid.specs.Characters.{charOf, digitOf}
+use Rattle.grid.specs.Characters.{charOf, digitOf, codeCharacter}
 use Rattle.grid.specs.Tree.{Read, ok, bad, follow}
-use Rattle.grid.specs.Answers.{Answer, accepted, refused, wrongLength, wrongCharacter}
+use Rattle.grid.specs.Answers.{Answer, accepted, refused, refusal, wrongLength, wrongNumber, wrongAt}
 use Rattle.grid.specs.Codes.{Codes, codeIn, readIn, placeIn, answer, answerAt}
 use Rattle.grid.specs.Places.{among, Accepted, FirstBad, Places}
 use Rattle.grid.proofs.Cut.{clash, Below}
 use Rattle.grid.proofs.Lists.{take-map}
+use Rattle.grid.proofs.Answers.{numberBy, not-six, number-of, number-tells}
 use Rattle.grid.proofs.Characters.{digits-chars, chars-digits}
 use Rattle.grid.proofs.Laws.{Ends, follow-small, follow-ends}
 use Rattle.grid.proofs.Families.{lenIn, Sound, length-level, level-length, len-same, found, length-codeIn, code-cell}
@@ -61,11 +62,11 @@ first-bad-one read w p q a b = go (ltb p q) refl (ltb q p) refl
 -- ---- the answers of any reader of codes of these lengths
 
 module _ {C : Type 0} (read : List ℕ → Answer C) (lengths : List ℕ) where
-  -- w is accepted, or its length is none of the lengths and it gets 6, or its length is one and it gets 7
+  -- w is accepted, or its length is none of the lengths and it gets 6, or its length is one and it gets 7 or 20
   pub data Answered (w : List ℕ) : Type 0 where
     as-cell : among (length w) lengths ≡ true → Accepted read w → Answered w
     as-six : among (length w) lengths ≡ false → read w ≡ refused wrongLength → Answered w
-    as-seven : (p : ℕ) → among (length w) lengths ≡ true → read w ≡ refused (wrongCharacter p) → FirstBad read w p → Answered w
+    as-wrong : (p : ℕ) → among (length w) lengths ≡ true → read w ≡ refused (wrongAt w p) → FirstBad read w p → Answered w
 
   no-cell-six : (w : List ℕ) → Accepted read w → read w ≡ refused wrongLength → ⊥
   no-cell-six w a e = clash (let z : accepted (a .0) ≡ refused wrongLength = sym (a .1) ∙ e in cc)
@@ -78,12 +79,12 @@ module _ {C : Type 0} (read : List ℕ → Answer C) (lengths : List ℕ) where
         to : Answered w → read w ≡ refused wrongLength → among (length w) lengths ≡ false
         to (as-cell m a) e = absurd (no-cell-six w a e)
         to (as-six m f) e = m
-        to (as-seven p m f b) e = absurd (let z : 6 ≡ 7 = ap number (sym e ∙ f) in omega arith)
+        to (as-wrong p m f b) e = absurd (not-six (codeCharacter (getD w p 0)) (ap number (sym e ∙ f) ∙ number-of (getD w p 0) (codeCharacter (getD w p 0)) refl))
 
         from : Answered w → among (length w) lengths ≡ false → read w ≡ refused wrongLength
         from (as-cell m a) n = clash (cc)
         from (as-six m f) n = f
-        from (as-seven p m f b) n = clash (cc)
+        from (as-wrong p m f b) n = clash (cc)
 
     lengths-are : (n : ℕ) → (among n lengths ≡ true) ↔ ((w : List ℕ) × (length w ≡ n) × Accepted read w)
     lengths-are n = (some-code n, λ t. subst (λ (x : ℕ). among x lengths ≡ true) (t .1) (from (t .0) (answered (t .0)) (t .2)))
@@ -91,32 +92,52 @@ module _ {C : Type 0} (read : List ℕ → Answer C) (lengths : List ℕ) where
         from : (w : List ℕ) → Answered w → Accepted read w → among (length w) lengths ≡ true
         from w (as-cell m a) c = m
         from w (as-six m f) c = absurd (no-cell-six w c f)
-        from w (as-seven p m f b) c = m
+        from w (as-wrong p m f b) c = m
 
-    seven : (w : List ℕ) (p : ℕ) → (read w ≡ refused (wrongCharacter p)) ↔ FirstBad read w p
+    wrong : (w : List ℕ) (p : ℕ) → (read w ≡ refused (wrongAt w p)) ↔ FirstBad read w p
     unfolding number place
-    seven w p = (λ e. to (answered w) e, λ b. from b (answered w))
+    wrong w p = (λ e. to (answered w) e, λ b. from b (answered w))
       where
-        to : Answered w → read w ≡ refused (wrongCharacter p) → FirstBad read w p
-        to (as-cell m a) e = clash (let z : accepted (a .0) ≡ refused (wrongCharacter p) = sym (a .1) ∙ e in cc)
-        to (as-six m f) e = absurd (let z : 6 ≡ 7 = ap number (sym f ∙ e) in omega arith)
-        to (as-seven q m f b) e = subst (FirstBad read w) (ap place (sym f ∙ e)) b
+        to : Answered w → read w ≡ refused (wrongAt w p) → FirstBad read w p
+        to (as-cell m a) e = clash (let z : accepted (a .0) ≡ refused (wrongAt w p) = sym (a .1) ∙ e in cc)
+        to (as-six m f) e = absurd (not-six (codeCharacter (getD w p 0)) (ap number (sym f ∙ e) ∙ number-of (getD w p 0) (codeCharacter (getD w p 0)) refl))
+        to (as-wrong q m f b) e = subst (FirstBad read w) (ap place (sym f ∙ e)) b
 
-        from : FirstBad read w p → Answered w → read w ≡ refused (wrongCharacter p)
+        from : FirstBad read w p → Answered w → read w ≡ refused (wrongAt w p)
         from b (as-cell m a) = absurd (b .no-further w refl a refl)
         from b (as-six m f) =
             let v = b .before in
             let z = lengths-are (length w) .1 (v .0, v .1, v .2) in
             clash (cc)
-        from b (as-seven q m f d) = f ∙ ap (λ (x : ℕ). refused (wrongCharacter x)) (first-bad-one read w q p d b)
+        from b (as-wrong q m f d) = f ∙ ap (λ (x : ℕ). refused (wrongAt w x)) (first-bad-one read w q p d b)
+
+    -- the number of a byte that counts as a code character, or of one that does not
+    numbered : (q : Bool) (w : List ℕ) (p : ℕ) → (read w ≡ refused (refusal (numberBy q) p)) ↔ (FirstBad read w p × (codeCharacter (getD w p 0) ≡ q))
+    unfolding number place
+    numbered q w p = (λ e. to (answered w) e, λ t. wrong w p .1 (t .0) ∙ ap (λ (x : ℕ). refused (refusal x p)) (number-of (getD w p 0) q (t .1)))
+      where
+        to : Answered w → read w ≡ refused (refusal (numberBy q) p) → FirstBad read w p × (codeCharacter (getD w p 0) ≡ q)
+        to (as-cell m a) e = clash (let z : accepted (a .0) ≡ refused (refusal (numberBy q) p) = sym (a .1) ∙ e in cc)
+        to (as-six m f) e = absurd (not-six q (ap number (sym f ∙ e)))
+        to (as-wrong i m f b) e =
+            let z : i ≡ p = ap place (sym f ∙ e) in
+            (subst (FirstBad read w) z b, number-tells (getD w p 0) q (sym (ap (λ (x : ℕ). wrongNumber (getD w x 0)) z) ∙ ap number (sym f ∙ e)))
 
     pub places-of : Places read lengths
-    places-of = record { accepted-six-or-seven = λ w. three w (answered w); six-exactly-when = six; lengths-exactly = lengths-are; seven-exactly-when = seven }
+    places-of =
+        record {
+          accepted-six-or-wrong = λ w. three w (answered w);
+          six-exactly-when = six;
+          lengths-exactly = lengths-are;
+          wrong-exactly-when = wrong;
+          seven-exactly-when = numbered false;
+          twenty-exactly-when = numbered true;
+        }
       where
-        three : (w : List ℕ) → Answered w → Accepted read w ⊎ ((read w ≡ refused wrongLength) ⊎ ((p : ℕ) × (read w ≡ refused (wrongCharacter p))))
+        three : (w : List ℕ) → Answered w → Accepted read w ⊎ ((read w ≡ refused wrongLength) ⊎ ((p : ℕ) × (read w ≡ refused (wrongAt w p))))
         three w (as-cell m a) = inl a
         three w (as-six m f) = inr (inl f)
-        three w (as-seven p m f b) = inr (inr (p, f))
+        three w (as-wrong p m f b) = inr (inr (p, f))
 
 -- ---- the lengths
 
@@ -144,7 +165,7 @@ module _ (K : Codes) (S : Sound K) where
   abbrev most : ℕ
   most = length (K .lengths)
 
-  -- ---- the place of refusal 7
+  -- ---- the place of a wrong character
 
   -- digits of a level's number that lead to a node are an accepted code
   accepted-digits : (l : ℕ) (v : List ℕ) (m : K .tree .Node) → 1 ≤ l → l ≤ most → length v ≡ len l → follow (K .tree) (take l (K .levels)) (K .root) v ≡ ok m → readIn K (map charOf v) ≡ accepted (K .cellAt l m)
@@ -186,7 +207,7 @@ module _ (K : Codes) (S : Sound K) where
       at l q (ok m) f = as-cell (among-some (length w) 1 (K .lengths) l q) (K .cellAt l m, rw (q, f) refl)
       at l q (bad p) f =
           let h = level-length K S (length w) l q in
-          as-seven p (among-some (length w) 1 (K .lengths) l q) (rw (q, f) refl)
+          as-wrong p (among-some (length w) 1 (K .lengths) l q) (rw (q, f) refl)
           (first-bad w l p (h .0) (h .1) (h .2) (follow-ends (K .tree) (S .laws) (take l (K .levels)) (K .root) (map digitOf w) p (S .fits l (h .1)) (length-map w digitOf ∙ h .2) f))
 
       go : (o : Option ℕ) → placeIn (length w) 1 (K .lengths) ≡ o → Answered (readIn K) (K .lengths) w

@@ -11,7 +11,7 @@ use lib.Seq.{sets, drop-cons, ext-getD, getD-take, getD-drop, length-take-le}
 use borrow.Author.Tests.{ltb-true, ltb-false, leb-true, eqb-true, lt-ltb, le-ltb, le-leb, lt-leb, ne-eqb}
 use Rattle.grid.specs.Splits.{first, split, splits, splitAt}
 use Rattle.grid.specs.inner.Roads.{placeOf}
-use Rattle.grid.specs.inner.Standing.{levelPlace, lengthIn, endedBy, planePlace, standsAt, heightPlace, countFrom, planeIn, spread, spreadBack}
+use Rattle.grid.specs.inner.Standing.{levelPlace, lengthIn, endedBy, planePlace, standsAt, heightPlace, countFrom, planeIn, HasPlane, spread, spreadBack}
 use Rattle.grid.proofs.Cut.{allBelow, below}
 use Rattle.grid.proofs.Lists.{getD-map-at}
 use Rattle.grid.proofs.Lengths.{grows}
@@ -118,6 +118,21 @@ level-room spaced level k b h = go spaced
     go true = omega (arith, st, g)
     go false = omega (arith, st, g)
 
+-- they have each plane character of a plane code of the level: one test of each level and each of them
+stands-in : (spaced : Bool) (level p : ℕ) → level ≤ 10 → p < splitAt (level - 1) .length → standsAt spaced p < lengthIn spaced level
+unfolding planePlace
+stands-in false level p a h = h
+stands-in true level p a h =
+    let at : ℕ → ℕ → Bool = λ l p. ltb (planePlace p) (lengthIn true l) in
+    ltb-true _ _ (below (at level) (splitAt (level - 1) .length) p (below (λ l. allBelow (at l) (splitAt (l - 1) .length)) 11 level refl (omega arith)) h)
+
+-- and each height character of the level: two more than there are levels
+pub height-in : (level p : ℕ) → level ≤ 10 → p < level + 2 → heightPlace p < lengthIn true level
+unfolding heightPlace
+height-in level p a h =
+    let at : ℕ → ℕ → Bool = λ l p. ltb (heightPlace p) (lengthIn true l) in
+    ltb-true _ _ (below (at level) (level + 2) p (below (λ l. allBelow (at l) (l + 2)) 11 level refl (omega arith)) h)
+
 -- ---- characters laid down each at its place
 
 -- the line stays as long as it is
@@ -207,3 +222,14 @@ module _ (level : ℕ) (w : List ℕ) (low : 1 ≤ level) (high : level ≤ 10) 
       let j : i < c = omega (arith, x, h) in
       getD-take c (drop at w) i 0 j ∙ getD-drop at w i 0 ∙ ap (λ (q : ℕ). getD w q 0) (sym (stands-run spaced k i a (omega arith) j))
       ∙ sym (getD-take c (drop to v) i 0 j ∙ getD-drop to v i 0 ∙ plane-at spaced (to + i) (omega (arith, st, g, j))))
+
+-- ---- a plane character of a code
+
+module _ {spaced : Bool} {level : ℕ} {w : List ℕ} {p : ℕ} (h : HasPlane spaced level w p) where
+  -- it stands in the code
+  pub has-inside : standsAt spaced p < length w
+  has-inside = rw (h .long) (stands-in spaced level p (h .most) (h .character))
+
+  -- and is the one of the plane code among the code's characters
+  pub has-same : getD (planeIn spaced level w) p 0 ≡ getD w (standsAt spaced p) 0
+  has-same = plane-at level w (h .some) (h .most) spaced p (h .character)

@@ -1,4 +1,4 @@
--- The demands, and when 6 and 7 are given, met by plane codes over unit squares and by space codes over unit cubes.
+-- The demands, and when 6, 7 and 20 are given, met by plane codes over unit squares and by space codes over unit cubes.
 -- Assumes nothing.
 use mathlib.Core.Path.{_≡_, refl, subst}
 use mathlib.Core.Bool.{Bool, true, false, cond, _&&_}
@@ -65,7 +65,7 @@ pub plane-demands : Demands planeFamily
 unfolding codeOf cellOf plane-sound
 plane-demands = demands planeCodes plane-sound
 
--- refusals 6 and 7 of plane codes, exactly when and where
+-- refusals 6, 7 and 20 of plane codes, exactly when and where
 pub plane-places : Places cellOf planeLengths
 unfolding cellOf planeCodes plane-sound
 plane-places = places planeCodes plane-sound
@@ -169,7 +169,7 @@ module _ (edition : ℤ) (rs : List ℕ) (e : editionIn edition ≡ accepted rs)
   unfolding spaceCodeOf spaceCellOf spaceCodes space-sound
   space-demands = demands (spaceCodes rs) (space-sound rs (edition-fair edition rs e))
 
-  -- refusals 6 and 7 of an edition's space codes, exactly when and where
+  -- refusals 6, 7 and 20 of an edition's space codes, exactly when and where
   pub space-places : Places (spaceCellOf rs) spaceLengths
   unfolding spaceCellOf spaceCodes space-sound
   space-places = places (spaceCodes rs) (space-sound rs (edition-fair edition rs e))

@@ -1,11 +1,14 @@
--- What a call answers: a result, or one refusal of document 01's table with its place and ordinal.
+-- What a call answers: a result, or one refusal of the documents' tables with its place and ordinal.
 -- Assumes nothing.
-use mathlib.Core.Bool.{Bool, true, false}
+use mathlib.Core.Bool.{Bool, true, false, cond}
+use mathlib.Core.List.{List}
 use Prim.Native.Nat.{ℕ}
+use lib.ListN.{getD}
 use Rattle.grid.specs.declared.Refusal.{Refusal}
 use Rattle.grid.specs.declared.Cell.{Cell}
 use Rattle.grid.specs.declared.PlaneRead.{PlaneRead}
 use Rattle.grid.specs.declared.PlaneRead.the-variants.{Found, Refused}
+use Rattle.grid.specs.Characters.{codeCharacter}
 
 -- what a reader or a writer answers: a result, or one refusal
 pub data Answer (C : Type 0) : Type 0 where
@@ -34,9 +37,17 @@ andThen (refused r) f = refused r
 abbrev pub wrongLength : Refusal
 wrongLength = refusal 6 0
 
--- 7: the character at place p is not allowed there, given those before it
-abbrev pub wrongCharacter : ℕ → Refusal
-wrongCharacter p = refusal 7 p
+-- the number of a character b that is not allowed at its place, given those before it: 20, misplaced, where it counts as a code character; else 7, garbled
+unfoldable pub wrongNumber : ℕ → ℕ
+wrongNumber b = cond (codeCharacter b) 20 7
+
+-- 7 or 20: the character b is not allowed at place p
+abbrev pub wrongCharacter : ℕ → ℕ → Refusal
+wrongCharacter p b = refusal (wrongNumber b) p
+
+-- 7 or 20 of the code w: its character at place p is not allowed there
+abbrev pub wrongAt : List ℕ → ℕ → Refusal
+wrongAt w p = wrongCharacter p (getD w p 0)
 
 -- a plane reader's answer in the paper's numbers: the cell, or the refusal
 abbrev pub planeRead : PlaneRead → Answer Cell

@@ -334,7 +334,7 @@ unfoldable pub codeOf : ℕ → Square → List ℕ
 unfolding planeCodes
 codeOf l s = codeIn planeCodes l s
 
--- bytes to the cell, or refusal 6, or 7 with its place
+-- bytes to the cell, or refusal 6, or 7 or 20 with its place
 unfoldable pub cellOf : List ℕ → Answer Cell
 unfolding planeCodes
 cellOf w = readIn planeCodes w

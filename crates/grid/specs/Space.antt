@@ -63,7 +63,7 @@ unfoldable pub spaceCodeOf : List ℕ → ℕ → Cube → List ℕ
 unfolding spaceCodes
 spaceCodeOf rs l s = codeIn (spaceCodes rs) l s
 
--- within an edition: bytes to the space cell, or refusal 6, or 7 with its place in the whole space code
+-- within an edition: bytes to the space cell, or refusal 6, or 7 or 20 with its place in the whole space code
 unfoldable pub spaceCellOf : List ℕ → List ℕ → Answer SpaceCell
 unfolding spaceCodes
 spaceCellOf rs w = readIn (spaceCodes rs) w

@@ -3,6 +3,7 @@
 
 ghost use mathlib.Core.Path.{_≡_};
 ghost use Prim.Native.Nat.{_-_, _+_, _≤_, _<_};
+ghost use lib.ListN.{length, getD};
 ghost use lib.Seq.{sets};
 ghost use Rattle.grid.specs.Units.{side, index, unit};
 ghost use Rattle.grid.specs.Plane.{letter, least};
@@ -10,7 +11,7 @@ ghost use Rattle.grid.specs.Splits.{splitAt, polarCellAt};
 ghost use Rattle.grid.specs.Characters.{charOf, digitOf};
 ghost use Rattle.grid.specs.Answers.{refusal, wrongCharacter, about};
 ghost use Rattle.grid.specs.inner.Roads.{DigitBelow, atPlace, singleOf, levelChars, LevelFits};
-ghost use Rattle.grid.specs.inner.Standing.{zonePlace, levelPlace, planePlace, heightPlace};
+ghost use Rattle.grid.specs.inner.Standing.{zonePlace, levelPlace, planePlace, standsAt, heightPlace};
 
 // One minute and one degree, in units of 1/2048 arc-second.
 pub const MINUTE: u32 = 60 * 2048;
@@ -97,15 +98,23 @@ pub fn refuse(number: u32) -> Refusal
     }
 }
 
-// 7: the character at a place is not allowed there.
-pub fn wrong_character(place: usize) -> Refusal
-    ensures { λ r. ⌜ r ≡ wrongCharacter place ⌝ }
+// The character b is not allowed at a place: 20 where it is a code character, and only misplaced there; 7 where it is none, and garbled.
+pub fn wrong_character(place: usize, b: u8) -> Refusal
+    ensures { λ r. ⌜ r ≡ wrongCharacter place b ⌝ }
 {
-    Refusal {
-        number: 7,
-        place: place,
-        ordinal: 1,
+    if digit(b) < 32 {
+        at_place(place, refuse(20))
+    } else {
+        at_place(place, refuse(7))
     }
+}
+
+// The same of the plane character p of a plane code, or of a space code: at its place among the plane characters.
+pub fn wrong_in(spaced: bool, code: &[u8], p: usize) -> Refusal
+    requires { ⌜ standsAt spaced p < length (now code) ⌝ }
+    ensures { λ r. ⌜ r ≡ wrongCharacter p (getD (now (code .entry)) (standsAt spaced p) 0) ⌝ }
+{
+    wrong_character(p, code[stands_at(spaced, p)])
 }
 
 // The same refusal, about the code or position k of the call.
@@ -532,6 +541,13 @@ pub fn plane_place(p: usize) -> usize
         k += 1;
     }
     p + 2 + k as usize
+}
+
+// Where the plane character p stands, in a plane code or in a space code.
+pub fn stands_at(spaced: bool, p: usize) -> usize
+    ensures { λ r. ⌜ r ≡ standsAt spaced p ⌝ }
+{
+    if spaced { plane_place(p) } else { p }
 }
 
 // ---- signed numbers, by their side of 0 and their outward index

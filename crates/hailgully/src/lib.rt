@@ -285,7 +285,7 @@ pub extern "C" fn hg_plane_write(
     written_of(plane::write(level, longitude, latitude, line, at))
 }
 
-// Reads a plane code. Refusals, in order: 6, 7.
+// Reads a plane code. Refusals, in order: 6, 7 or 20.
 #[no_mangle]
 pub extern "C" fn hg_plane_read(code: &[u8]) -> HgPlaneCell
     ensures { λ r. ⌜ r ≡ planeCellOf (cellOf (now (code .entry))) ⌝ }
@@ -309,7 +309,7 @@ pub extern "C" fn hg_space_write(
     written_of(space::write(edition, level, longitude, latitude, layer, line, at))
 }
 
-// Reads a space code of an edition, 1 or 2. Refusals, in order: 13, 6, 7.
+// Reads a space code of an edition, 1 or 2. Refusals, in order: 13, 6, 7 or 20.
 #[no_mangle]
 pub extern "C" fn hg_space_read(edition: i64, code: &[u8]) -> HgSpaceCell
     ensures { λ r. ⌜ r ≡ spaceCellFor (spaceCellIn edition (now (code .entry))) ⌝ }
@@ -317,7 +317,7 @@ pub extern "C" fn hg_space_read(edition: i64, code: &[u8]) -> HgSpaceCell
     space_cell_of(space::read(edition, code))
 }
 
-// Writes the reference code from a base code to a target code. Refusals, in order: 6, 7 of the base; 6, 7 of the target; 8, 9, 10, 5.
+// Writes the reference code from a base code to a target code. Refusals, in order: 6, 7 or 20 of the base; 6, 7 or 20 of the target; 8, 9, 10, 5.
 #[no_mangle]
 pub extern "C" fn hg_reference_write(
     base: &[u8],
@@ -330,7 +330,7 @@ pub extern "C" fn hg_reference_write(
     written_of(reference::write(base, target, line, at))
 }
 
-// Reads a reference code and writes the plane code of its target. Refusals, in order: 6, 7, 8, 12, 5.
+// Reads a reference code and writes the plane code of its target. Refusals, in order: 6, 7 or 20, 8, 12, 5.
 #[no_mangle]
 pub extern "C" fn hg_reference_read(code: &[u8], line: &mut [u8], at: usize) -> HgWritten
     ensures { λ r. ⌜ (r ≡ writtenOf (laid (targetText (now (code .entry))) (now (line .entry)) at .0)) × (now (line .exit) ≡ laid (targetText (now (code .entry))) (now (line .entry)) at .1) ⌝ }
@@ -346,7 +346,7 @@ pub extern "C" fn hg_arcseconds(longitude: f64, latitude: f64) -> HgUnits
     units_of(arcseconds::read(longitude, latitude))
 }
 
-// The box of a plane code in arc-seconds. Refusals, in order: 6, 7.
+// The box of a plane code in arc-seconds. Refusals, in order: 6, 7 or 20.
 #[no_mangle]
 pub extern "C" fn hg_plane_box(code: &[u8]) -> HgBox
     ensures { λ r. ⌜ BoxFor (cellOf (now (code .entry))) r ⌝ }
@@ -358,7 +358,7 @@ pub extern "C" fn hg_plane_box(code: &[u8]) -> HgBox
 }
 
 // Adds a reservation of a plane code's cell, over the layers that it stands for, to a book: for a flight, and the minutes from start to end, the end
-// not included. Refusals, in order: 19, 6, 7, 14, 15, 16 with the place of the first record in conflict, 17.
+// not included. Refusals, in order: 19, 6, 7 or 20, 14, 15, 16 with the place of the first record in conflict, 17.
 #[no_mangle]
 pub extern "C" fn hg_book_add_plane(
     code: &[u8],
@@ -374,7 +374,7 @@ pub extern "C" fn hg_book_add_plane(
     booked_of(d)
 }
 
-// The same of a space code of edition 1 and its space cell. Refusals, in order: 19, 6, 7, 14, 15, 16 with the place, 17.
+// The same of a space code of edition 1 and its space cell. Refusals, in order: 19, 6, 7 or 20, 14, 15, 16 with the place, 17.
 #[no_mangle]
 pub extern "C" fn hg_book_add_space(
     code: &[u8],

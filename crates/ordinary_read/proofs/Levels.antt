@@ -16,12 +16,13 @@ use Rattle.grid.specs.Codes.{answer}
 use Rattle.grid.specs.Splits.{splits, splitAt}
 use Rattle.grid.specs.Plane.{Node, sheet, childOf, plane, planeCodes}
 use Rattle.grid.specs.inner.Roads.{placeOf, laterRead}
-use Rattle.grid.specs.inner.Standing.{levelPlace, lengthIn, planeIn}
+use Rattle.grid.specs.inner.Standing.{levelPlace, lengthIn, planeIn, HasPlane}
 use Rattle.grid.proofs.Cut.{and-true, allBelow, below}
 use Rattle.grid.proofs.Lists.{take-map, drop-map}
 use Rattle.grid.proofs.Laws.{shift-shift}
 use Rattle.grid.proofs.Lengths.{adds, grows}
 use Rattle.grid.proofs.Standing.{few, level-room, plane-long, plane-run}
+use Rattle.grid.proofs.Stopping.{sheet-later, later-inside}
 use Rattle.ordinary_read.proofs.Steps.{onward-bad}
 use Rattle.ordinary_read.specs.declared.Cursor.{Cursor}
 use Rattle.ordinary_read.specs.inner.Reading.{ordinaryRead, onward, ordinaryAnswer, Inside, LevelCell, DividedBy, OneCharacter, TwoCharacters, Before, AtSheet, Onward, SheetCode}
@@ -170,16 +171,33 @@ module _ (w : List ℕ) where
       (all-next ts at n (λ c. follow plane (take j ts) c (map digitOf (drop (at + n) w))) (λ c. all-follow j ts (at + n) c (a .1))
       (childOf t m (take n (map digitOf (drop at w)))))
 
--- the nine levels, of which a code has as many as its length tells: all that the reader answers
-pub together : {spaced north : Bool} {level zone row : ℕ} {w : List ℕ} {c : Cursor} → At spaced north level zone row w 9 c
-    → ordinaryAnswer level (ordinaryRead c) ≡ laterRead level (sheet north zone row) (planeIn spaced level w)
-unfolding ordinaryAnswer planeCodes laterRead
-together {spaced} {north} {level} {zone} {row} {w} p =
+-- the nine levels, of which a code has as many as its length tells
+followed : {spaced north : Bool} {level zone row : ℕ} {w : List ℕ} {c : Cursor} → At spaced north level zone row w 9 c
+    → ordinaryRead c ≡ shift 4 (follow plane (drop 1 (take level splits)) (sheet north zone row) (map digitOf (drop 4 (planeIn spaced level w))))
+followed {spaced} {north} {level} {zone} {row} {w} p =
     let g = p .given in
     let v = planeIn spaced level w in
     let m = sheet north zone row in
     let j : suc (level - 1) ≡ level = omega (arith, g .some-level) in
-    ap (answer planeCodes level)
-    (p .read
+    p .read
     ∙ all-follow v (level - 1) (drop 1 splits) 4 m (rw (long w g) (below (λ j. cut j 4 (splitAt j .length) (drop 1 splits)) 10 (level - 1) refl (omega (arith, g .some-level, g .last-level))))
-    ∙ ap (λ (l : ℕ). shift 4 (follow plane (drop 1 (take l splits)) m (map digitOf (drop 4 v)))) j)
+    ∙ ap (λ (l : ℕ). shift 4 (follow plane (drop 1 (take l splits)) m (map digitOf (drop 4 v)))) j
+
+-- all that the reader answers
+pub together : {spaced north : Bool} {level zone row : ℕ} {w : List ℕ} {c : Cursor} → At spaced north level zone row w 9 c
+    → ordinaryAnswer (planeIn spaced level w) level (ordinaryRead c) ≡ laterRead level (sheet north zone row) (planeIn spaced level w)
+unfolding ordinaryAnswer planeCodes laterRead
+together {level = level} {w} p = ap (answer planeCodes _ level) (followed p)
+
+-- where a character was not allowed, it is one of the code
+pub stopped-in : {spaced north : Bool} {level zone row : ℕ} {w : List ℕ} {c : Cursor} → At spaced north level zone row w 9 c → c .good ≡ false → HasPlane spaced level w (c .place)
+stopped-in {spaced} {north} {level} {zone} {row} {w} {c} p n =
+    let g = p .given in
+    let e : ordinaryRead c ≡ bad (c .place) = rw n refl in
+    record {
+      some = g .some-level;
+      most = g .last-level;
+      long = g .length-is;
+      character = later-inside level (g .last-level) (sheet north zone row) (planeIn spaced level w) (c .place)
+          (sheet-later level (g .last-level) north zone row (g .some-zone) (g .last-zone) (g .last-row)) (long w g) (sym (followed p) ∙ e);
+    }

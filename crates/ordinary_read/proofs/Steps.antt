@@ -8,21 +8,25 @@ use native.Mathlib.Omega.{arith}
 use lib.Dec.{ltb, leb}
 use lib.IntN.{ℤ}
 use lib.ListN.{length, getD}
-use borrow.Author.Tests.{lt-ltb, le-ltb, le-leb, leb-true, leb-false}
+use lib.Bits.{bitOr, and-le-l, and-le-r, or-lt, or-add-and}
+use borrow.Author.Tests.{lt-ltb, le-ltb, le-leb, ltb-true, ltb-false, leb-true, leb-false}
+use Rattle.grid.specs.declared.Cell.{Cell}
 use Rattle.grid.specs.declared.Split.{Split}
 use Rattle.grid.specs.Units.{HALF, POLAR}
 use Rattle.grid.specs.Characters.{digitOf}
 use Rattle.grid.specs.inner.Roads.{DigitBelow, placeOf}
-use Rattle.grid.specs.inner.Standing.{levelPlace}
+use Rattle.grid.specs.inner.Standing.{levelPlace, standsAt, planeIn, HasPlane}
 use Rattle.grid.specs.Tree.{Read, ok, bad, guard, shift}
 use Rattle.grid.specs.Splits.{first}
+use Rattle.grid.specs.declared.Refusal.{Refusal}
 use Rattle.grid.specs.Answers.{accepted, refused, wrongCharacter}
-use Rattle.grid.specs.Plane.{Node, cell, ordinary, Form, pair, quad, formOf, plainPart, sub, sheet, readAs, least, cellFrom, planeCodes}
+use Rattle.grid.specs.Plane.{Node, cell, ordinary, Form, pair, quad, formOf, plainPart, sub, sheet, readAs, least, cellFrom, cellAt, planeCodes}
 use Rattle.grid.proofs.Cut.{clash, cut-end, and-true}
 use Rattle.grid.proofs.Characters.{told, guard-below}
 use Rattle.grid.proofs.Lists.{map-one, map-two}
+use Rattle.grid.proofs.Standing.{has-same}
 use Rattle.ordinary_read.specs.declared.Cursor.{Cursor}
-use Rattle.ordinary_read.specs.inner.Reading.{ordinaryBox, ordinaryRead, levelDigits, onward, ordinaryAnswer, Inside, DividedBy, OneCharacter, goesOn, LevelNext, Before, AtSheet, Child, Onward}
+use Rattle.ordinary_read.specs.inner.Reading.{ordinaryBox, ordinaryNode, ordinaryRead, levelDigits, onward, ordinaryAnswer, Inside, DividedBy, OneCharacter, goesOn, LevelNext, Before, AtSheet, Child, Onward}
 
 -- ---- the cell of level 1
 
@@ -56,10 +60,19 @@ module _ (n : Bool) (z column row : ℕ) where
 
 -- ---- the child in a column and a row
 
+-- eight of each: one test tells both
+pub both-eight : (a b : ℕ) → ltb (bitOr a b) 8 ≡ (ltb a 8 && ltb b 8)
+both-eight a b = go (ltb a 8) refl (ltb b 8) refl
+  where
+    go : (p : Bool) → ltb a 8 ≡ p → (q : Bool) → ltb b 8 ≡ q → ltb (bitOr a b) 8 ≡ (p && q)
+    go true e true f = lt-ltb (bitOr a b) 8 (or-lt 3 a b (ltb-true a 8 e) (ltb-true b 8 f))
+    go true e false f = le-ltb (bitOr a b) 8 (omega (arith, ltb-false b 8 f, or-add-and a b, and-le-l a b))
+    go false e q f = le-ltb (bitOr a b) 8 (omega (arith, ltb-false a 8 e, or-add-and a b, and-le-r a b))
+
 -- a cursor that was stopped is not good
 not-good : {A : Type 0} (c : Cursor) (p : ℕ) → ordinaryRead c ≡ bad p → c .good ≡ true → A
 not-good c p e g =
-    let z : cond true (ok (cell (ordinary (c .north) (c .east)) (ordinaryBox c))) (bad (c .place)) ≡ bad p = rw g at e in
+    let z : cond true (ok (ordinaryNode c)) (bad (c .place)) ≡ bad p = rw g at e in
     clash (cc)
 
 -- the child lies in its quarter
@@ -68,43 +81,50 @@ pub record Lies (s : Split) (column row : ℕ) (c : Cursor) : Type 0 where
   pub along : c .y + (row * s .height + s .height) ≤ POLAR
 
 module _ (s : Split) (column row : ℕ) (c : Cursor) where
-  pub no-column : (r : Cursor) → s .columns ≤ column → ordinaryRead r ≡ bad (c .place) → Child s column row c r
-  no-column r h e = record { read = rw (le-ltb column (s .columns) h) e; reached = λ g. not-good r _ e g }
+  -- the level has not both
+  pub none-there : (r : Cursor) → (ltb column (s .columns) && ltb row (s .rows)) ≡ false → {p : ℕ} → p ≡ cond (ltb column (s .columns)) (s .length - 1) (c .place) → ordinaryRead r ≡ bad p
+      → Child s column row c r
+  none-there r n e f = record { read = f ∙ ap bad e ∙ go (ltb column (s .columns)) (ltb row (s .rows)) n _; reached = λ g. not-good r _ f g }
+    where
+      go : (p q : Bool) → (p && q) ≡ false → (m : Node) → bad (cond p (s .length - 1) (c .place)) ≡ guard (c .place) p (guard (s .length - 1) q (ok m))
+      go false q n m = refl
+      go true false n m = refl
+      go true true n m = clash (cc)
 
-  module _ (h : column < s .columns) where
-    pub no-row : (r : Cursor) → s .rows ≤ row → ordinaryRead r ≡ bad (s .length - 1) → Child s column row c r
-    no-row r k e = record { read = rw (lt-ltb column (s .columns) h, le-ltb row (s .rows) k) e; reached = λ g. not-good r _ e g }
+  -- it has both
+  module _ (b : (ltb column (s .columns) && ltb row (s .rows)) ≡ true) (i : Inside c) (d : DividedBy s c) where
+    there : (ltb column (s .columns) ≡ true) × (ltb row (s .rows) ≡ true)
+    there = and-true (ltb column (s .columns)) (ltb row (s .rows)) b
 
-    module _ (k : row < s .rows) (i : Inside c) (d : DividedBy s c) where
-      pub lies : Lies s column row c
-      lies =
-          record {
-            across = omega (arith, cut-end column (s .columns) (s .width) (c .width) h (d .wide), i .across);
-            along = omega (arith, cut-end row (s .rows) (s .height) (c .height) k (d .high), i .along);
-          }
+    pub lies : Lies s column row c
+    lies =
+        record {
+          across = omega (arith, cut-end column (s .columns) (s .width) (c .width) (ltb-true column (s .columns) (there .0)) (d .wide), i .across);
+          along = omega (arith, cut-end row (s .rows) (s .height) (c .height) (ltb-true row (s .rows) (there .1)) (d .high), i .along);
+        }
 
-      abbrev moved : Cursor
-      moved =
-          record {
-            good = true;
-            place = s .length;
-            north = c .north;
-            east = c .east;
-            x = c .x + column * s .width;
-            y = c .y + row * s .height;
-            width = s .width;
-            height = s .height;
-          }
+    abbrev moved : Cursor
+    moved =
+        record {
+          good = true;
+          place = s .length;
+          north = c .north;
+          east = c .east;
+          x = c .x + column * s .width;
+          y = c .y + row * s .height;
+          width = s .width;
+          height = s .height;
+        }
 
-      pub child-moved : Child s column row c moved
-      child-moved =
-          record {
-            read = rw (lt-ltb column (s .columns) h, lt-ltb row (s .rows) k) refl;
-            reached = λ g. (
-              record { across = omega (arith, lies); along = omega (arith, lies); some-width = d .some-width; some-height = d .some-height },
-              record { wide = refl; high = refl; at = refl },
-            );
-          }
+    pub child-moved : Child s column row c moved
+    child-moved =
+        record {
+          read = rw (there .0, there .1) refl;
+          reached = λ g. (
+            record { across = omega (arith, lies); along = omega (arith, lies); some-width = d .some-width; some-height = d .some-height },
+            record { wide = refl; high = refl; at = refl },
+          );
+        }
 
 -- ---- one level's characters
 
@@ -204,11 +224,16 @@ module _ (s : Split) {at place : ℕ} (e : at ≡ place) (w : List ℕ) (c : Cur
 
 -- ---- the answer
 
-pub answer-refused : (l : ℕ) (c : Cursor) → c .good ≡ false → refused (wrongCharacter (c .place)) ≡ ordinaryAnswer l (ordinaryRead c)
-unfolding ordinaryAnswer planeCodes
-answer-refused l c g = rw g refl
+pub cell-found : (l : ℕ) (c : Cursor) {west south : ℤ} → west ≡ least (c .east) (c .x) (c .width) → south ≡ least (c .north) (c .y) (c .height)
+    → cellFrom l west south (c .width) (c .height) ≡ cellAt l (ordinaryNode c)
+cell-found l c e f = rw (e, f) refl
 
-pub answer-found : (l : ℕ) (c : Cursor) {west south : ℤ} → c .good ≡ true → west ≡ least (c .east) (c .x) (c .width) → south ≡ least (c .north) (c .y) (c .height)
-    → accepted (cellFrom l west south (c .width) (c .height)) ≡ ordinaryAnswer l (ordinaryRead c)
-unfolding ordinaryAnswer planeCodes
-answer-found l c g e f = rw (g, e, f) refl
+module _ (spaced : Bool) (l : ℕ) (w : List ℕ) (c : Cursor) where
+  pub answer-refused : c .good ≡ false → HasPlane spaced l w (c .place) → {r : Refusal} → r ≡ wrongCharacter (c .place) (getD w (standsAt spaced (c .place)) 0)
+      → refused r ≡ ordinaryAnswer (planeIn spaced l w) l (ordinaryRead c)
+  unfolding ordinaryAnswer planeCodes
+  answer-refused g h e = rw (g, has-same h) (ap refused e)
+
+  pub answer-found : c .good ≡ true → {d : Cell} → d ≡ cellAt l (ordinaryNode c) → accepted d ≡ ordinaryAnswer (planeIn spaced l w) l (ordinaryRead c)
+  unfolding ordinaryAnswer planeCodes
+  answer-found g e = rw g (ap accepted e)

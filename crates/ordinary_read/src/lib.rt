@@ -2,16 +2,18 @@
 // The reading place is a value: a cursor, and each level read hands back the next one.
 
 ghost use mathlib.Core.Path.{_≡_};
-ghost use mathlib.Core.Bool.{true, false};
-ghost use Prim.Native.Nat.{_+_, _≤_, _<_};
+ghost use mathlib.Core.Bool.{true, false, cond, _&&_};
+ghost use Prim.Native.Nat.{_+_, _-_, _≤_, _<_};
+ghost use lib.Dec.{ltb};
 ghost use lib.ListN.{length};
 ghost use Rattle.grid.specs.Tree.{bad};
 ghost use Rattle.grid.specs.Answers.{planeRead};
 ghost use Rattle.grid.specs.Splits.{first};
-ghost use Rattle.grid.specs.Plane.{sheet};
+ghost use Rattle.grid.specs.Plane.{sheet, cellAt};
 ghost use Rattle.grid.specs.inner.Roads.{laterRead};
-ghost use Rattle.grid.specs.inner.Standing.{levelPlace, planeIn};
+ghost use Rattle.grid.specs.inner.Standing.{levelPlace, planeIn, HasPlane};
 ghost use Rattle.ordinary_read.specs.inner.Reading.{
+  ordinaryNode,
   ordinaryRead,
   ordinaryAnswer,
   Inside,
@@ -41,6 +43,34 @@ struct Cursor {
     y: u32,
     width: u32,
     height: u32,
+}
+
+// Whether the level s has a column and a row. Eight of each are told by one test of both.
+fn has(s: Split, column: u32, row: u32) -> bool
+    ensures { λ r. ⌜ r ≡ (ltb column (s .columns) && ltb row (s .rows)) ⌝ }
+{
+    if s.columns == 8 {
+        if s.rows == 8 {
+            return (column | row) < 8;
+        }
+    }
+    if column < s.columns {
+        row < s.rows
+    } else {
+        false
+    }
+}
+
+// Of a column and a row that the level s has not both, the place of the bad character: the column's, which is given, or else the level's last.
+fn bad_place(s: Split, column: u32, place: usize) -> usize
+    requires { ⌜ 1 ≤ s .length ⌝ }
+    ensures { λ r. ⌜ r ≡ cond (ltb column (s .columns)) (s .length - 1) place ⌝ }
+{
+    if column < s.columns {
+        s.length - 1
+    } else {
+        place
+    }
 }
 
 impl Cursor {
@@ -78,11 +108,8 @@ impl Cursor {
         requires { ⌜ Inside self × DividedBy s self ⌝ }
         ensures { λ r. ⌜ Child s column row self r ⌝ }
     {
-        if s.columns <= column {
-            return self.stopped(self.place);
-        }
-        if s.rows <= row {
-            return self.stopped(s.length - 1);
+        if !has(s, column, row) {
+            return self.stopped(bad_place(s, column, self.place));
         }
         Cursor {
             good: true,
@@ -135,21 +162,29 @@ impl Cursor {
         self.child(s, both % 2, both / 2)
     }
 
-    // What the reader answers.
-    fn answer(self, level: u32) -> PlaneRead
-        requires { ⌜ (self .good ≡ true → Inside self) ⌝ }
-        ensures { λ r. ⌜ planeRead r ≡ ordinaryAnswer level (ordinaryRead self) ⌝ }
+    // The cell, as a reader hands it back. By itself: built inside `answer` it costs every read five instructions or more.
+    fn cell(self, level: u32) -> Cell
+        requires { ⌜ Inside self ⌝ }
+        ensures { λ r. ⌜ r ≡ cellAt level (ordinaryNode self) ⌝ }
     {
-        if !self.good {
-            return PlaneRead::Refused(grid::wrong_character(self.place));
-        }
-        PlaneRead::Found(Cell {
+        Cell {
             level: level,
             west: grid::least_on(self.east, self.x, self.width),
             south: grid::least_on(self.north, self.y, self.height),
             width: self.width,
             height: self.height,
-        })
+        }
+    }
+
+    // What the reader of a code of the level answers: the cell, or refusal 7 or 20.
+    fn answer(self, spaced: bool, level: u32, code: &[u8]) -> PlaneRead
+        requires { ⌜ (self .good ≡ true → Inside self) × (self .good ≡ false → HasPlane spaced level (now code) (self .place)) ⌝ }
+        ensures { λ r. ⌜ planeRead r ≡ ordinaryAnswer (planeIn spaced level (now (code .entry))) level (ordinaryRead self) ⌝ }
+    {
+        if !self.good {
+            return PlaneRead::Refused(grid::wrong_in(spaced, code, self.place));
+        }
+        PlaneRead::Found(self.cell(level))
     }
 }
 
@@ -169,7 +204,7 @@ pub fn rest(level: u32, north: bool, zone: u32, row: u32, code: &[u8]) -> PlaneR
         .pair(false, 7, grid::split_of(7), code)
         .pair(false, 8, grid::split_of(8), code)
         .pair(false, 9, grid::split_of(9), code)
-        .answer(level)
+        .answer(false, level, code)
 }
 
 // The same of the plane characters of a space code, read where they stand; a bad one's place is counted among them.
@@ -187,5 +222,5 @@ pub fn rest_in_space(level: u32, north: bool, zone: u32, row: u32, code: &[u8]) 
         .pair(true, 7, grid::split_of(7), code)
         .pair(true, 8, grid::split_of(8), code)
         .pair(true, 9, grid::split_of(9), code)
-        .answer(level)
+        .answer(true, level, code)
 }

@@ -255,7 +255,7 @@ pub fn write(level: i64, longitude: i64, latitude: i64, line: &mut [u8], at: usi
     }
 }
 
-// The cell of a plane code. Refusals 6 and 7, in that order; 7 has the place of the first bad character.
+// The cell of a plane code. Refusals, in order: 6, 7 or 20 with the place of the first bad character.
 pub fn read(code: &[u8]) -> PlaneRead
     ensures { λ r. ⌜ planeRead r ≡ cellOf (now (code .entry)) ⌝ }
 {
@@ -266,11 +266,11 @@ pub fn read(code: &[u8]) -> PlaneRead
     match begin(false, code) {
         First::Sheet(north, zone, row) => ordinary_read::rest(level, north, zone, row, code),
         First::Pole(north) => polar_read::rest(level, north, code),
-        First::Bad(place) => PlaneRead::Refused(grid::wrong_character(place)),
+        First::Bad(place) => PlaneRead::Refused(grid::wrong_in(false, code, place)),
     }
 }
 
-// The cell of the plane characters of a space code of a level, read where they stand: refusal 7, with the place of the first bad one among them.
+// The cell of the plane characters of a space code of a level, read where they stand; or 7 or 20, with the place of the first bad one among them.
 pub fn read_in_space(level: u32, code: &[u8]) -> PlaneRead
     requires { ⌜ SpaceCode level (length (now code)) ⌝ }
     ensures { λ r. ⌜ planeRead r ≡ cellOf (planeIn true level (now (code .entry))) ⌝ }
@@ -284,6 +284,6 @@ pub fn read_in_space(level: u32, code: &[u8]) -> PlaneRead
             code,
         ),
         First::Pole(north) => polar_read::rest_in_space(level, north, code),
-        First::Bad(place) => PlaneRead::Refused(grid::wrong_character(place)),
+        First::Bad(place) => PlaneRead::Refused(grid::wrong_in(true, code, place)),
     }
 }

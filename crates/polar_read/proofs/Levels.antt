@@ -11,18 +11,18 @@ use lib.ListN.{drop}
 use borrow.Author.Tests.{eqb-true, leb-true, ltb-true}
 use Rattle.grid.specs.declared.Split.{Split}
 use Rattle.grid.specs.Units.{DEGREE, TURN, HALF, QUARTER}
-use Rattle.grid.specs.Tree.{Read, ok, bad, follow}
+use Rattle.grid.specs.Tree.{ok, bad, follow}
 use Rattle.grid.specs.declared.Cell.{Cell}
 use Rattle.grid.specs.Answers.{Answer}
-use Rattle.grid.specs.Codes.{answer}
 use Rattle.grid.specs.Splits.{splits, splitAt}
-use Rattle.grid.specs.Plane.{Node, pole, least, longitudeAt, leastFromPole, cellFrom, cellAt, planeCodes}
+use Rattle.grid.specs.Plane.{pole, least, longitudeAt, leastFromPole, cellFrom, cellAt}
 use Rattle.grid.specs.inner.Roads.{laterRead}
-use Rattle.grid.specs.inner.Standing.{levelPlace, lengthIn, planeIn}
+use Rattle.grid.specs.inner.Standing.{levelPlace, lengthIn, planeIn, HasPlane}
 use Rattle.grid.proofs.Cut.{clash, and-true, below}
 use Rattle.grid.proofs.Lengths.{adds}
 use Rattle.grid.proofs.PlaneLaws.{Good, GoodCell, GoodCap, cell-positive, cap-positive, limX, limY}
-use Rattle.grid.proofs.Standing.{few, level-room}
+use Rattle.grid.proofs.Standing.{few, level-room, plane-long}
+use Rattle.grid.proofs.Stopping.{pole-later, later-inside}
 use Rattle.polar_read.specs.declared.Cursor.{Cursor}
 use Rattle.polar_read.specs.inner.Reading.{frameOf, polarBox, nodeOf, polarReading, startOf, Round, Moved, levelAmong, polarStep, soFar, PolarReached, polarAnswer}
 use Rattle.polar_read.specs.inner.Room.{OfLevel, HasLevel, PolarDigits, PolarRoom, PolarReady, Whole}
@@ -193,14 +193,9 @@ module _ (l : ℕ) (c : Cursor) (o : Whole c) {a b a' b' : ℤ} where
 
 -- ---- the answer
 
-answer-as : (l : ℕ) (r : Read Node) → unfold planeCodes in (polarAnswer l r ≡ answer planeCodes l r)
-unfolding planeCodes
-answer-as l (ok m) = refl
-answer-as l (bad p) = refl
-
-rest-is : (l : ℕ) (n : Bool) (w : List ℕ) → polarAnswer l (soFar n l w) ≡ laterRead l (pole n) w
-unfolding laterRead planeCodes soFar
-rest-is l n w = answer-as l (soFar n l w)
+rest-is : (l : ℕ) (n : Bool) (w : List ℕ) → polarAnswer w l (soFar n l w) ≡ laterRead l (pole n) w
+unfolding laterRead polarAnswer soFar
+rest-is l n w = refl
 
 -- ---- N000 and S000
 
@@ -217,20 +212,36 @@ module _ {n : Bool} {c : Cursor} (e : c ≡ startOf n) where
         round = λ g. record { in-disc = refl; west = refl; wide = refl; inner = refl };
       })
 
-  pub start-answers : {l : ℕ} (w : List ℕ) {a : Answer Cell} → l ≡ 1 → a ≡ polarAnswer l (polarReading c) → a ≡ laterRead l (pole n) w
-  unfolding soFar follow
+  -- what answering asks; the cursor is good
+  pub start-asks : {spaced : Bool} {level : ℕ} {w : List ℕ} → (c .good ≡ true → Whole c) × (c .good ≡ false → HasPlane spaced level w (c .place))
+  start-asks = (λ g. start-whole, λ g. let t : c .good ≡ true = ap (λ (b : Cursor). b .good) e in clash (cc))
+
+  pub start-answers : {l : ℕ} (w : List ℕ) {a : Answer Cell} → l ≡ 1 → a ≡ polarAnswer w l (polarReading c) → a ≡ laterRead l (pole n) w
+  unfolding soFar follow polarAnswer
   start-answers {l} w z q = q ∙ rw (e, z) (rest-is 1 n w)
 
 -- ---- the last cursor
 
 module _ {spaced : Bool} {level : ℕ} {w : List ℕ} (o : OfLevel spaced level w) {c : Cursor} (r : PolarReached (min 10 level) (planeIn spaced level w) c) where
-  pub last-whole : c .good ≡ true → Whole c
-  last-whole g = whole (min 10 level) (planeIn spaced level w) c (omega (arith, o .some)) (omega arith) r g
+  abbrev code : List ℕ
+  code = planeIn spaced level w
+
+  -- it has read every level of the code
+  all-read : PolarReached level code c
+  all-read = let e : min 10 level ≡ level = omega (arith, o .most) in subst (λ (l : ℕ). PolarReached l code c) e r
+
+  -- a bad character's place lies in the code
+  last-has : c .good ≡ false → HasPlane spaced level w (c .place)
+  unfolding soFar
+  last-has g =
+      let e : soFar (c .north) level code ≡ bad (c .place) = sym (all-read .means) ∙ rw g refl in
+      let i = later-inside level (o .most) (pole (c .north)) code (c .place) (pole-later level (o .most) (c .north)) (plane-long level w (o .some) (o .most) spaced (o .long)) e in
+      record { some = o .some; most = o .most; long = o .long; character = i }
+
+  -- what answering asks
+  pub last-asks : (c .good ≡ true → Whole c) × (c .good ≡ false → HasPlane spaced level w (c .place))
+  last-asks = (whole level code c (o .some) (o .most) all-read, last-has)
 
   -- its answer is the whole reading's
-  pub answers : {n : Bool} {a : Answer Cell} → a ≡ polarAnswer level (polarReading c) → c .north ≡ n → a ≡ laterRead level (pole n) (planeIn spaced level w)
-  answers {n} e q =
-      let v = planeIn spaced level w in
-      let z : min 10 level ≡ level = omega (arith, o .most) in
-      let m : polarReading c ≡ soFar n level v = r .means ∙ rw (z, q) refl in
-      e ∙ ap (polarAnswer level) m ∙ rest-is level n v
+  pub answers : {n : Bool} {a : Answer Cell} → a ≡ polarAnswer code level (polarReading c) → c .north ≡ n → a ≡ laterRead level (pole n) code
+  answers {n} e q = e ∙ ap (polarAnswer code level) (all-read .means ∙ rw q refl) ∙ rest-is level n code

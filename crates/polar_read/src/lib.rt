@@ -13,7 +13,7 @@ ghost use Rattle.grid.specs.Tree.{ok, bad};
 ghost use Rattle.grid.specs.Answers.{planeRead};
 ghost use Rattle.grid.specs.Plane.{pole, allowed, longitudeAt, leastFromPole, cellAt, polarNode};
 ghost use Rattle.grid.specs.inner.Roads.{laterRead};
-ghost use Rattle.grid.specs.inner.Standing.{levelPlace, planeIn};
+ghost use Rattle.grid.specs.inner.Standing.{levelPlace, planeIn, HasPlane};
 ghost use Rattle.polar_read.specs.inner.Reading.{nodeOf, polarReading, startOf, Round, HasRead, Moved, PolarReached, polarAnswer};
 ghost use Rattle.polar_read.specs.inner.Reading.{columnsOf, inmostOf, divided, polarChild, settledOf, levelAmong, polarStep, namedIn, namedRead};
 ghost use Rattle.polar_read.specs.inner.Room.{OfLevel, HasLevel, Whole, PolarRoom, ChildRoom, PolarReady};
@@ -310,15 +310,15 @@ impl Cursor {
         }
     }
 
-    // What a reader of the level answers: the cell, or refusal 7.
-    fn answer(self, level: u32) -> PlaneRead
-        requires { ⌜ (self .good ≡ true → Whole self) ⌝ }
-        ensures { λ r. ⌜ planeRead r ≡ polarAnswer level (polarReading self) ⌝ }
+    // What the reader of a code of the level answers: the cell, or refusal 7 or 20.
+    fn answer(self, spaced: bool, level: u32, code: &[u8]) -> PlaneRead
+        requires { ⌜ (self .good ≡ true → Whole self) × (self .good ≡ false → HasPlane spaced level (now code) (self .place)) ⌝ }
+        ensures { λ r. ⌜ planeRead r ≡ polarAnswer (planeIn spaced level (now (code .entry))) level (polarReading self) ⌝ }
     {
         if self.good {
             return PlaneRead::Found(self.cell(level));
         }
-        PlaneRead::Refused(grid::wrong_character(self.place))
+        PlaneRead::Refused(grid::wrong_in(spaced, code, self.place))
     }
 }
 
@@ -329,7 +329,7 @@ pub fn rest(level: u32, north: bool, code: &[u8]) -> PlaneRead
 {
     let start = Cursor::start(north);
     if level == 1 {
-        return start.answer(level);
+        return start.answer(false, level, code);
     }
     start
         .second(named(false, code))
@@ -341,7 +341,7 @@ pub fn rest(level: u32, north: bool, code: &[u8]) -> PlaneRead
         .pair(false, level, 7, grid::split_of(7), code)
         .pair(false, level, 8, grid::split_of(8), code)
         .pair(false, level, 9, grid::split_of(9), code)
-        .answer(level)
+        .answer(false, level, code)
 }
 
 // The same of the plane characters of a space code, read where they stand; a bad one's place is counted among them.
@@ -351,7 +351,7 @@ pub fn rest_in_space(level: u32, north: bool, code: &[u8]) -> PlaneRead
 {
     let start = Cursor::start(north);
     if level == 1 {
-        return start.answer(level);
+        return start.answer(true, level, code);
     }
     start
         .second(named(true, code))
@@ -363,5 +363,5 @@ pub fn rest_in_space(level: u32, north: bool, code: &[u8]) -> PlaneRead
         .pair(true, level, 7, grid::split_of(7), code)
         .pair(true, level, 8, grid::split_of(8), code)
         .pair(true, level, 9, grid::split_of(9), code)
-        .answer(level)
+        .answer(true, level, code)
 }

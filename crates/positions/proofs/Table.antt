@@ -3,6 +3,7 @@ use mathlib.Core.Path.{_≡_, refl}
 use mathlib.Core.List.{map}
 use Rattle.grid.specs.Characters.{charOf, digitOf}
 use Rattle.grid.specs.Tree.{code, follow}
+use Rattle.grid.specs.Answers.{wrongNumber}
 use Rattle.grid.specs.Codes.{codeIn, readIn}
 use Rattle.grid.specs.Ends.{unitIn}
 use Rattle.grid.specs.Plane.{polarCellOf, planeCodes, codeOf, cellOf}
@@ -17,5 +18,5 @@ use Rattle.reference.specs.Text.{fit, spelled, spanned, referenceText, targetOf
 use Rattle.positions.specs.Cases.{given, said, cases}
 
 pub all-hold : map given cases ≡ map said cases
-unfolding unitIn levelIn squareIn editionIn planeText levelOf spaceText layeredText referenceText spanned spelled fit between spanIn targetText offsetIn targetOf movedTo codeOf cellOf spaceCodeOf spaceCellOf codeIn readIn code follow charOf digitOf polarCellOf planeCodes spaceCodes
+unfolding unitIn levelIn squareIn editionIn planeText levelOf spaceText layeredText referenceText spanned spelled fit between spanIn targetText offsetIn targetOf movedTo codeOf cellOf spaceCodeOf spaceCellOf codeIn readIn code follow charOf digitOf wrongNumber polarCellOf planeCodes spaceCodes
 all-hold = refl

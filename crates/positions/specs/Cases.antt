@@ -1,5 +1,5 @@
--- One table of what is asked and what the documents say: the cases P1 to P13, the codes that are refused, the ends of the ranges, the editions, and the
--- cells about the poles.
+-- One table of what is asked and what the documents say: the cases P1 to P13, the codes that are refused, the ends of the ranges, the editions, bad
+-- characters, and the cells about the poles.
 -- Assumes nothing.
 use mathlib.Core.List.{List, [], _∷_, _++_}
 use Prim.Native.Nat.{ℕ, _+_, _*_}
@@ -8,7 +8,7 @@ use Prim.Native.String.{String}
 use lib.IntN.{ℤ, pos, negℤ, _-ℤ_}
 use Rattle.grid.specs.declared.Cell.{Cell}
 use Rattle.grid.specs.declared.SpaceCell.{SpaceCell}
-use Rattle.grid.specs.Answers.{Answer, accepted, refused, refusal}
+use Rattle.grid.specs.Answers.{Answer, accepted, refused, refusal, about}
 use Rattle.grid.specs.Plane.{cellOf, cellFrom}
 use Rattle.grid.specs.Space.{spaceCellIn}
 use Rattle.plane.specs.Text.{planeText}
@@ -57,6 +57,10 @@ pub data Case : Type 0 where
   beyond : ℤ → ℤ → ℤ → ℤ → ℤ → ℕ → Case
   -- edition, and a space code that is refused, with number and place
   halts : ℤ → String → ℕ → ℕ → Case
+  -- a reference code that is refused, with number and place
+  strays : String → ℕ → ℕ → Case
+  -- base and target that are refused, with number, place and ordinal
+  parts : String → String → ℕ → ℕ → ℕ → Case
 
 -- what a call gives: a text, a cell or a space cell
 pub data Outcome : Type 0 where
@@ -76,6 +80,8 @@ given (outside l u v n) = texts (planeText l u v)
 given (stops t n p) = cells (cellOf (bytes t))
 given (beyond e l u v z n) = texts (spaceText e l u v z)
 given (halts e t n p) = spaces (spaceCellIn e (bytes t))
+given (strays t n p) = texts (targetText (bytes t))
+given (parts b t n p k) = texts (referenceText (bytes b) (bytes t))
 
 -- what the documents say
 abbrev pub said : Case → Outcome
@@ -89,8 +95,10 @@ said (outside l u v n) = texts (refused (refusal n 0))
 said (stops t n p) = cells (refused (refusal n p))
 said (beyond e l u v z n) = texts (refused (refusal n 0))
 said (halts e t n p) = spaces (refused (refusal n p))
+said (strays t n p) = texts (refused (refusal n p))
+said (parts b t n p k) = texts (refused (about k (refusal n p)))
 
--- document 01's cases, the run case of 180° as document 02 has it
+-- document 01's cases, the run cases of 180°, N00A and N61A as document 02 has them
 abbrev pub paperCases : List Case
 paperCases =
     -- P1, P2, P3
@@ -134,8 +142,8 @@ paperCases =
     ∷ relates "N30A0000000" "N31A0000000" "N30A0000000-10"
     -- those that are run, and the program's lines
     ∷ writes (pos 1) (pos 1327104000) (pos 0) "N01A"
-    ∷ stops "N00A" 7 3
-    ∷ stops "N61A" 7 2
+    ∷ stops "N00A" 20 3
+    ∷ stops "N61A" 20 2
     ∷ stops "" 6 0
     ∷ stops "n31A" 7 0
     ∷ reads "N31A" 1 (pos 0) (pos 0) 44236800 29491200
@@ -163,15 +171,69 @@ editionCases =
     ∷ stacks (pos 2) "N031A56002" 2 (pos 0) (pos 0) 3686400 3686400 (pos 1887436800) 4194304
     -- F at levels 4 and 5: a digit in edition 2, refused at its place in edition 1
     ∷ stacks (pos 2) "N031A000000000F" 4 (pos 0) (pos 0) 122880 122880 (pos 1966080) 131072
-    ∷ halts (pos 1) "N031A000000000F" 7 14
+    ∷ halts (pos 1) "N031A000000000F" 20 14
     ∷ stacks (pos 2) "N031A000000000000F" 5 (pos 0) (pos 0) 8192 8192 (pos 122880) 8192
-    ∷ halts (pos 1) "N031A000000000000F" 7 17
+    ∷ halts (pos 1) "N031A000000000000F" 20 17
     -- 13: after 1 and before 2 in writing, before 6 in reading
     ∷ beyond (pos 3) (pos 0) (pos 0) (pos 0) (pos 0) 1
     ∷ beyond (pos 3) (pos 1) (pos 1327104001) (pos 0) (pos 0) 13
     ∷ beyond (- 1) (pos 1) (pos 0) (pos 0) (pos 0) 13
     ∷ halts (pos 0) "" 13 0
     ∷ halts (pos 4294967297) "N031A00" 13 0
+    ∷ []
+
+-- a bad character is garbled or misplaced (document 02, Wish 5)
+abbrev pub kindCases : List Case
+kindCases =
+    -- the first and the last code character of each run, and the bytes beside them, where a row letter belongs
+    stops "N31/" 7 3
+    ∷ stops "N310" 20 3
+    ∷ stops "N319" 20 3
+    ∷ stops "N31:" 7 3
+    ∷ stops "N31@" 7 3
+    ∷ reads "N31V" 1 (pos 0) (pos (deg 84 0)) (deg 6 0) (deg 4 0)
+    ∷ stops "N31W" 7 3
+    ∷ stops "V31A" 20 0
+    ∷ stops "A31A" 20 0
+    ∷ stops "@31A" 7 0
+    ∷ stops "W31A" 7 0
+    -- small letters and the hyphen are none
+    ∷ stops "N31a" 7 3
+    ∷ stops "N31-" 7 3
+    ∷ stops "N-1A" 7 1
+    -- the first bad one decides, whatever stands behind it
+    ∷ stops "N7aw" 20 1
+    ∷ stops "Nz1Z" 7 1
+    ∷ stops "N000A-" 20 4
+    ∷ stops "N000-A" 7 4
+    -- a height character as a plane character, in their order in the space code
+    ∷ halts (pos 1) "N231A00" 20 1
+    ∷ halts (pos 1) "N-31A00" 7 1
+    ∷ halts (pos 1) "N-71A00" 7 1
+    ∷ halts (pos 1) "N071A-0" 20 2
+    ∷ halts (pos 1) "N03-A70" 7 3
+    ∷ halts (pos 1) "N031A64" 20 6
+    ∷ halts (pos 2) "N031A6G" 20 6
+    ∷ halts (pos 2) "N031A6g" 7 6
+    ∷ halts (pos 2) "N031A000000000G" 20 14
+    -- the hyphen counts at its place alone; there a code character is misplaced
+    ∷ strays "N31A0000000010" 20 11
+    ∷ strays "N31A0000000V10" 20 11
+    ∷ strays "N31A0000000W10" 7 11
+    ∷ strays "N31A0000000=10" 7 11
+    ∷ strays "N31A0000000--0" 7 12
+    ∷ strays "N31A0000000-0-" 7 13
+    ∷ strays "N31A0000000-80" 20 12
+    ∷ strays "N31A0000000-0H" 20 13
+    ∷ strays "N31A0000000-a0" 7 12
+    ∷ strays "N-1A0000000-10" 7 1
+    ∷ strays "N61A0000000-1-" 20 2
+    ∷ strays "N31A-1-" 7 6
+    -- of base and target, the base first
+    ∷ parts "N00A" "n31A" 20 3 1
+    ∷ parts "n31A" "N00A" 7 0 1
+    ∷ parts "N31A0000000" "N61A0000000" 20 2 2
+    ∷ parts "N31A0000000" "N31A-000000" 7 4 2
     ∷ []
 
 -- the ends of the ranges (document 02, Wish 2), their codes worked out by hand
@@ -285,30 +347,30 @@ polarCases =
     ∷ reads "N00000000" 4 (pos 0) (pos (deg 89 59)) (deg 360 0) (deg 0 1)
     ∷ reads "N00000035" 4 (pos (deg 72 0)) (pos (deg 89 54)) (deg 24 0) (deg 0 1)
     ∷ reads "S00000035" 4 (pos (deg 72 0)) (- (deg 89 55)) (deg 24 0) (deg 0 1)
-    ∷ stops "N00000010" 7 8
+    ∷ stops "N00000010" 20 8
     -- level 5: 15 rows of 8,192 units
     ∷ reads "N0000000000" 5 (pos 0) (northLess 8192) (deg 360 0) 8192
     ∷ reads "N00000000E1" 5 (- (deg 24 0)) (northLess (2 * 8192)) (deg 24 0) 8192
-    ∷ stops "N0000000010" 7 10
+    ∷ stops "N0000000010" 20 10
     -- level 6: the new cap is 0, the outer row's two halves are 2 and 3, and the digit 1 never occurs
     ∷ reads "N00000000000" 6 (pos 0) (northLess 4096) (deg 360 0) 4096
     ∷ reads "N00000000002" 6 (pos 0) (northLess (2 * 4096)) (deg 180 0) 4096
     ∷ reads "N00000000003" 6 (- (deg 180 0)) (northLess (2 * 4096)) (deg 180 0) 4096
     ∷ reads "S00000000003" 6 (- (deg 180 0)) (southPlus 4096) (deg 180 0) 4096
-    ∷ stops "N00000000001" 7 11
+    ∷ stops "N00000000001" 20 11
     -- levels 7 to 10: 8 rows, row 0 the new cap, the others of 8 columns of 45°; row 0 with another column is refused at the row character
     ∷ reads "N0000000000000" 7 (pos 0) (northLess 512) (deg 360 0) 512
     ∷ reads "N0000000000053" 7 (- (deg 135 0)) (northLess (4 * 512)) (deg 45 0) 512
-    ∷ stops "N0000000000010" 7 13
+    ∷ stops "N0000000000010" 20 13
     ∷ reads "N000000000000000" 8 (pos 0) (northLess 64) (deg 360 0) 64
     ∷ reads "N000000000000071" 8 (- (deg 45 0)) (northLess (2 * 64)) (deg 45 0) 64
-    ∷ stops "N000000000000020" 7 15
+    ∷ stops "N000000000000020" 20 15
     ∷ reads "N00000000000000000" 9 (pos 0) (northLess 8) (deg 360 0) 8
     ∷ reads "N00000000000000037" 9 (pos (deg 135 0)) (northLess (8 * 8)) (deg 45 0) 8
-    ∷ stops "N00000000000000070" 7 17
+    ∷ stops "N00000000000000070" 20 17
     ∷ reads "N0000000000000000000" 10 (pos 0) (northLess 1) (deg 360 0) 1
     ∷ reads "N0000000000000000046" 10 (- (deg 180 0)) (northLess 7) (deg 45 0) 1
-    ∷ stops "N0000000000000000010" 7 19
+    ∷ stops "N0000000000000000010" 20 19
     ∷ reads "S0000000000026" 7 (pos (deg 90 0)) (southPlus (6 * 512)) (deg 45 0) 512
     ∷ reads "S0000000000000000000" 10 (pos 0) (- (deg 90 0)) (deg 360 0) 1
     ∷ reads "S0000000000000000017" 10 (pos (deg 45 0)) (southPlus 7) (deg 45 0) 1
@@ -332,4 +394,4 @@ polarCases =
 
 -- the table
 abbrev pub cases : List Case
-cases = paperCases ++ (endCases ++ (editionCases ++ polarCases))
+cases = paperCases ++ (endCases ++ (editionCases ++ (kindCases ++ polarCases)))

@@ -65,7 +65,7 @@ not-written =
     refused "N31A000000" "N31A0000000" 6 0 1
     ∷ refused "n31A0000000" "N31A000000" 7 0 1
     ∷ refused "N31A0000000" "N31A000000" 6 0 2
-    ∷ refused "N31A0000000" "N31A000000F" 7 10 2
+    ∷ refused "N31A0000000" "N31A000000F" 20 10 2
     ∷ refused "N31A00000" "N31A0000000" 8 0 1
     ∷ refused "N31A0000000" "N0000000000" 8 0 1
     ∷ refused "N31A0000000" "N31A00000000" 9 0 1
@@ -74,7 +74,7 @@ not-written =
     ∷ []
 
 writing : map (λ c. referenceText (bytes (c .code)) (bytes (c .other))) not-written ≡ map (λ c. answers.refused (c .gives)) not-written
-unfolding referenceText spanned spelled fit between spanIn cellOf readIn Tree.follow digitOf charOf
+unfolding referenceText spanned spelled fit between spanIn cellOf readIn Tree.follow digitOf charOf answers.wrongNumber
 writing = refl
 
 -- a reference code; the other is not looked at
@@ -83,10 +83,14 @@ not-read =
     refused "" "" 6 0 1
     ∷ refused "-10" "" 6 0 1
     ∷ refused "N31A000000-10" "" 6 0 1
-    ∷ refused "N31A0000F00+80" "" 7 8 1
+    ∷ refused "N31A0000F00+80" "" 20 8 1
+    ∷ refused "N31A0000-00+80" "" 7 8 1
     ∷ refused "N31A0000000+80" "" 7 11 1
-    ∷ refused "N31A0000000-8H" "" 7 12 1
-    ∷ refused "N31A0000000-0H" "" 7 13 1
+    ∷ refused "N31A0000000V80" "" 20 11 1
+    ∷ refused "N31A0000000-8H" "" 20 12 1
+    ∷ refused "N31A0000000--H" "" 7 12 1
+    ∷ refused "N31A0000000-0H" "" 20 13 1
+    ∷ refused "N31A0000000-0W" "" 7 13 1
     ∷ refused "N31A-10" "" 8 0 1
     ∷ refused "N0000000000-00" "" 8 0 1
     ∷ refused "N31V074090E-01" "" 12 0 1
@@ -94,5 +98,5 @@ not-read =
     ∷ []
 
 reading : map (λ c. targetText (bytes (c .code))) not-read ≡ map (λ c. answers.refused (c .gives)) not-read
-unfolding targetText offsetIn targetOf fit movedTo cellOf readIn codeOf codeIn Tree.follow Tree.code digitOf charOf
+unfolding targetText offsetIn targetOf fit movedTo cellOf readIn codeOf codeIn Tree.follow Tree.code digitOf charOf answers.wrongNumber
 reading = refl

@@ -200,15 +200,15 @@ module _ (b : Cell) (m n : ℕ) where
 -- ---- the hyphen, M and N
 
 module _ (k h m n : ℕ) where
-  pub no-hyphen : {r : Refusal} → (h ≡ 45 → ⊥) → r ≡ wrongCharacter k → refused r ≡ offsetIn k h m n
+  pub no-hyphen : {r : Refusal} → (h ≡ 45 → ⊥) → r ≡ wrongCharacter k h → refused r ≡ offsetIn k h m n
   unfolding offsetIn
   no-hyphen d q = rw (q, ne-eqb h 45 d) refl
 
-  pub no-east : {u : ℕ} {r : Refusal} → h ≡ 45 → u ≡ digitOf m → false ≡ offsetDigit u → r ≡ wrongCharacter (k + 1) → refused r ≡ offsetIn k h m n
+  pub no-east : {u : ℕ} {r : Refusal} → h ≡ 45 → u ≡ digitOf m → false ≡ offsetDigit u → r ≡ wrongCharacter (k + 1) m → refused r ≡ offsetIn k h m n
   unfolding offsetIn
   no-east d e f q = rw (q, eq-eqb h 45 d, ← e, ← f) refl
 
-  pub no-north : {u v : ℕ} {r : Refusal} → h ≡ 45 → u ≡ digitOf m → true ≡ offsetDigit u → v ≡ digitOf n → false ≡ offsetDigit v → r ≡ wrongCharacter (k + 2) → refused r ≡ offsetIn k h m n
+  pub no-north : {u v : ℕ} {r : Refusal} → h ≡ 45 → u ≡ digitOf m → true ≡ offsetDigit u → v ≡ digitOf n → false ≡ offsetDigit v → r ≡ wrongCharacter (k + 2) n → refused r ≡ offsetIn k h m n
   unfolding offsetIn
   no-north d e f g i q = rw (q, eq-eqb h 45 d, ← e, ← g, ← f, ← i) refl
 

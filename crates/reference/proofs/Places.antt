@@ -8,19 +8,19 @@ use Prim.Native.Nat.{ℕ, suc, _+_, _-_, _≤_, _<_}
 use native.Mathlib.Nat.{add-zero}
 use native.Mathlib.Omega.{arith}
 use lib.Dec.{leb, eqb}
-use lib.ListN.{length, take, getD, length-append}
+use lib.ListN.{length, take, getD, length-append, List·getD-append}
 use lib.Seq.{length-take-le, take-append-le, take-append-add, take-take}
 use borrow.Author.Tests.{leb-true, leb-false, eqb-true, eqb-false, eq-eqb, ne-eqb}
 use Rattle.grid.specs.declared.Cell.{Cell}
 use Rattle.grid.specs.Characters.{charOf, digitOf}
-use Rattle.grid.specs.Answers.{accepted, refused, wrongLength, wrongCharacter}
+use Rattle.grid.specs.Answers.{accepted, refused, wrongLength, wrongCharacter, wrongAt}
 use Rattle.grid.specs.Places.{among, Accepted, FirstBad}
 use Rattle.grid.specs.Splits.{planeLengths}
 use Rattle.grid.specs.Plane.{cellOf}
 use Rattle.grid.proofs.Cut.{clash}
 use Rattle.grid.proofs.Characters.{digit-char}
 use Rattle.grid.proofs.Places.{agree-at}
-use Rattle.grid.proofs.Refusing.{Answered, as-cell, as-six, as-seven}
+use Rattle.grid.proofs.Refusing.{Answered, as-cell, as-six, as-wrong}
 use Rattle.grid.proofs.Theorems.{plane-places}
 use Rattle.reference.specs.Offsets.{offsetDigit}
 use Rattle.reference.specs.Text.{referenceCode, offsetIn, aimOf, referenceLengths}
@@ -152,33 +152,39 @@ module _ (a : List ℕ) (h m n : ℕ) where
     no-digit : (r c : ℕ) → offsetDigit r ≡ true → charOf r ≡ c → offsetDigit (digitOf c) ≡ true
     no-digit r c h q = let l : r ≤ 16 = digit-fits r h in subst (λ (v : ℕ). offsetDigit v ≡ true) (sym (digit-char r (omega arith)) ∙ ap digitOf q) h
 
+    -- a refusal behind the base is the one of the character there
+    wrong-behind : (i : ℕ) → aimOf w ≡ refused (wrongCharacter (length a + i) (getD (h ∷ m ∷ n ∷ []) i 0)) → FirstBad aimOf w (length a + i) → Answered aimOf referenceLengths w
+    wrong-behind i r b = as-wrong (length a + i) long (r ∙ ap (λ (c : ℕ). refused (wrongCharacter (length a + i) c)) (sym (getD-behind a h m n i))) b
+
     behind-answered : Answered aimOf referenceLengths w
     unfolding offsetIn
     behind-answered = go (eqb h 45) refl (offsetDigit (digitOf m)) refl (offsetDigit (digitOf n)) refl
       where
         go : (p : Bool) → eqb h 45 ≡ p → (q : Bool) → offsetDigit (digitOf m) ≡ q → (r : Bool) → offsetDigit (digitOf n) ≡ r → Answered aimOf referenceLengths w
         go false p q x r y =
-            as-seven (length a) long (read-behind a h m n ∙ rw (e, p) refl)
-            (subst (FirstBad aimOf w) (add-zero (length a)) (behind-bad 0 (omega arith) 45 48 48 (reads 45 48 48 refl zero-digit zero-digit) refl (λ i j _ _ t. eqb-false h 45 p (sym t))))
+            wrong-behind 0 (read-behind a h m n ∙ rw (e, p, add-zero (length a)) refl)
+            (behind-bad 0 (omega arith) 45 48 48 (reads 45 48 48 refl zero-digit zero-digit) refl (λ i j _ _ t. eqb-false h 45 p (sym t)))
         go true p false x r y =
-            as-seven (length a + 1) long (read-behind a h m n ∙ rw (e, p, x) refl)
+            wrong-behind 1 (read-behind a h m n ∙ rw (e, p, x) refl)
             (behind-bad 1 (omega arith) h 48 48 (reads h 48 48 p zero-digit zero-digit) refl (λ i j k _ t. (let z = no-digit i m k t in clash (cc))))
         go true p true x false y =
-            as-seven (length a + 2) long (read-behind a h m n ∙ rw (e, p, x, y) refl)
+            wrong-behind 2 (read-behind a h m n ∙ rw (e, p, x, y) refl)
             (behind-bad 2 (omega arith) h m 48 (reads h m 48 p x zero-digit) refl (λ i j _ k t. (let z = no-digit j n k t in clash (cc))))
         go true p true x true y = as-cell long (reads h m n p x y)
 
 -- a code as long as a reference code
 long-answered : (a : List ℕ) (h m n : ℕ) → among (length a) planeLengths ≡ true → Answered aimOf referenceLengths (behind a h m n)
-long-answered a h m n t = go (plane-places .accepted-six-or-seven a)
+long-answered a h m n t = go (plane-places .accepted-six-or-wrong a)
   where
     long : among (length (behind a h m n)) referenceLengths ≡ true
     long = less-three (length (behind a h m n)) ∙ ap (λ (k : ℕ). among k planeLengths) (base-length a h m n) ∙ t
 
-    go : Accepted cellOf a ⊎ ((cellOf a ≡ refused wrongLength) ⊎ ((p : ℕ) × (cellOf a ≡ refused (wrongCharacter p)))) → Answered aimOf referenceLengths (behind a h m n)
+    go : Accepted cellOf a ⊎ ((cellOf a ≡ refused wrongLength) ⊎ ((p : ℕ) × (cellOf a ≡ refused (wrongAt a p)))) → Answered aimOf referenceLengths (behind a h m n)
     go (inl c) = behind-answered a h m n (c .0) (c .1) long
     go (inr (inl e)) = let z = plane-places .six-exactly-when a .0 e in clash (cc)
-    go (inr (inr (p, e))) = as-seven p long (read-behind a h m n ∙ rw e refl) (base-bad a h m n p (plane-places .seven-exactly-when a p .0 e))
+    go (inr (inr (p, e))) =
+        let b = plane-places .wrong-exactly-when a p .0 e in
+        as-wrong p long (read-behind a h m n ∙ rw (e, List·getD-append a (h ∷ m ∷ n ∷ []) 0 p (b .inside)) refl) (base-bad a h m n p b)
 
 -- any code
 pub answered : (w : List ℕ) → Answered aimOf referenceLengths w

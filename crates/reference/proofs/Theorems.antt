@@ -1,19 +1,19 @@
 -- What is asked of reference codes: the writer and the reader undo each other, an offset is cells east and cells north,
--- 6 and 7 are given at the right lengths and places, and each answer exactly when its reason holds.
+-- 6, 7 and 20 are given at the right lengths and places, and each answer exactly when its reason holds.
 -- Assumes nothing.
 use mathlib.Core.Path.{_≡_, refl, sym, _∙_, ap, subst}
-use mathlib.Core.Bool.{Bool, true, false, _&&_}
-use mathlib.Core.List.{List}
+use mathlib.Core.Bool.{Bool, true, false, cond, _&&_}
+use mathlib.Core.List.{List, [], _∷_}
 use mathlib.Core.Logic.{_↔_, inl, inr}
 use Prim.Native.Nat.{ℕ, _-_, _≤_, _<_}
-use native.Mathlib.Omega.{arith}
 use lib.Dec.{ltb, leb, eqb}
-use lib.ListN.{length, take}
+use lib.ListN.{length, take, getD}
 use borrow.Author.Tests.{ltb-true, leb-true, eqb-true, ltb-false, eqb-false, lt-ltb, le-ltb, ne-eqb}
 use Rattle.grid.specs.declared.Cell.{Cell}
 use Rattle.grid.specs.declared.Refusal.{Refusal}
 use Rattle.grid.specs.Units.{POLAR, index}
-use Rattle.grid.specs.Answers.{Answer, accepted, refused, refusal, about, unless, andThen, wrongLength, wrongCharacter}
+use Rattle.grid.specs.Characters.{digitOf, codeCharacter}
+use Rattle.grid.specs.Answers.{Answer, accepted, refused, refusal, about, unless, andThen, wrongLength, wrongNumber, wrongAt}
 use Rattle.grid.specs.Places.{among, Accepted, FirstBad, Places}
 use Rattle.grid.specs.Splits.{planeLengths}
 use Rattle.grid.specs.Plane.{codeOf, cellOf}
@@ -22,8 +22,8 @@ use Rattle.grid.proofs.Cut.{clash, and-true}
 use Rattle.grid.proofs.Refusing.{places-of}
 use Rattle.grid.proofs.Theorems.{plane-places}
 use Rattle.reference.specs.Offsets.{offsetDigit}
-use Rattle.reference.specs.Text.{fit, eastSpan, northSpan, referenceCode, spelled, spanned, referenceText, targetSquare, Aim, targetOf, aimOf, referenceLengths, targetText}
-use Rattle.reference.specs.Meaning.{southAfter, OffsetTo, Formed, Leads, CodesOf, WhyWritten, base-six, base-seven, target-six, target-seven, eight, nine, ten, an-offset, WhyRead, six, seven, not-fit, twelve, target}
+use Rattle.reference.specs.Text.{HYPHEN, fit, eastSpan, northSpan, referenceCode, spelled, spanned, referenceText, targetSquare, Aim, targetOf, aimOf, referenceLengths, targetText}
+use Rattle.reference.specs.Meaning.{southAfter, OffsetTo, Formed, Leads, CodesOf, WhyWritten, base-six, base-wrong, target-six, target-wrong, eight, nine, ten, an-offset, WhyRead, six, wrong, not-fit, twelve, target}
 use Rattle.reference.proofs.Spelling.{formed, formed-start, parts, read-formed, formed-of}
 use Rattle.reference.proofs.Places.{less-three, answered, some-code}
 use Rattle.reference.proofs.Leading.{related-of, reached, reached-spanned, taken, related-read, leads-of, of-leads, by-latitude, by-offset, found-offset, leads-by}
@@ -100,29 +100,30 @@ module _ (base goal : List ℕ) (b t : Cell) (eb : cellOf base ≡ accepted b) (
           absurd (none (found-offset base goal b t eb et f g l (leb-true (eastSpan b t) 16 (o .0)) (leb-true (northSpan b t) 16 (o .1))))
       go false e none = refl
 
--- ---- 6: reference codes, wherever they lead: their lengths, and the place of refusal 7
+-- ---- 6: reference codes, wherever they lead: their lengths, and the place of refusals 7 and 20
 
 -- what is read as base, M and N is what the rules form
 pub formed-exactly-when : (w : List ℕ) → Accepted aimOf w ↔ Formed w
 formed-exactly-when w = (λ a. formed-of w (a .0) (a .1) .0, λ f. (parts f, read-formed w f))
 
--- 6 and 7 of it exactly when, as of plane codes
+-- 6, 7 and 20 of it exactly when, as of plane codes
 pub reference-places : Places aimOf referenceLengths
 reference-places = places-of aimOf referenceLengths answered some-code
 
--- 8 and 12 come after them
-aim-refused : (w : List ℕ) (r : Refusal) → r .number < 8 → (targetText w ≡ refused r) ↔ (aimOf w ≡ refused r)
+-- 8 and 12 come after them: a refusal of another number is given exactly when the base, M and N get it
+aim-refused : {X : Type 0} (w : List ℕ) (r : Refusal) → among (r .number) (8 ∷ 12 ∷ []) ≡ false → ((aimOf w ≡ refused r) ↔ X) → ((targetText w ≡ refused r) ↔ X)
 unfolding targetText targetOf
-aim-refused w r few = (λ e. go (aimOf w) e, λ e. sym (then-refused targetOf e))
+aim-refused w r other x = (λ e. x .0 (go (aimOf w) e), λ y. sym (then-refused targetOf (x .1 y)))
   where
-    number : Answer (List ℕ) → ℕ
-    number (refused r) = r .number
-    number (accepted w) = 0
+    -- it is 8 or 12
+    after : Answer (List ℕ) → Bool
+    after (refused r) = among (r .number) (8 ∷ 12 ∷ [])
+    after (accepted w) = false
 
     later : (p q : Bool) (v : List ℕ) → unless p (refusal 8 0) (unless q (refusal 12 0) (accepted v)) ≡ refused r → ⊥
     later true true v e = clash (cc)
-    later true false v e = let z : 12 ≡ r .number = ap number e in omega arith
-    later false q v e = let z : 8 ≡ r .number = ap number e in omega arith
+    later true false v e = let z = ap after e in clash (cc)
+    later false q v e = let z = ap after e in clash (cc)
 
     go : (x : Answer Aim) → andThen x targetOf ≡ refused r → x ≡ refused r
     go (refused q) e = cc
@@ -131,16 +132,30 @@ aim-refused w r few = (λ e. go (aimOf w) e, λ e. sym (then-refused targetOf e)
 -- the reader gives 6 exactly when the total less 3 is no plane length
 pub six-exactly-when : (w : List ℕ) → (targetText w ≡ refused wrongLength) ↔ (among (length w - 3) planeLengths ≡ false)
 six-exactly-when w =
-    let a = aim-refused w wrongLength (omega arith) in
-    let b = reference-places .six-exactly-when w in
-    (λ e. sym (less-three (length w)) ∙ b .0 (a .0 e), λ h. a .1 (b .1 (less-three (length w) ∙ h)))
+    aim-refused w wrongLength refl
+    (subst (λ (q : Bool). (aimOf w ≡ refused wrongLength) ↔ (q ≡ false)) (less-three (length w)) (reference-places .six-exactly-when w))
 
--- and 7 at p exactly when p is the first place at which no reference code of that length, wherever it leads, goes on
-pub seven-exactly-when : (w : List ℕ) (p : ℕ) → (targetText w ≡ refused (wrongCharacter p)) ↔ FirstBad aimOf w p
-seven-exactly-when w p =
-    let a = aim-refused w (wrongCharacter p) (omega arith) in
-    let b = reference-places .seven-exactly-when w p in
-    (λ e. b .0 (a .0 e), λ h. a .1 (b .1 h))
+-- and 7 or 20 at p exactly when p is the first place at which no reference code of that length, wherever it leads, goes on
+pub wrong-exactly-when : (w : List ℕ) (p : ℕ) → (targetText w ≡ refused (wrongAt w p)) ↔ FirstBad aimOf w p
+unfolding wrongNumber
+wrong-exactly-when w p = aim-refused w (wrongAt w p) (go (codeCharacter (getD w p 0))) (reference-places .wrong-exactly-when w p)
+  where
+    go : (q : Bool) → among (cond q 20 7) (8 ∷ 12 ∷ []) ≡ false
+    go true = refl
+    go false = refl
+
+-- 7 exactly when the byte there is no code character
+pub seven-exactly-when : (w : List ℕ) (p : ℕ) → (targetText w ≡ refused (refusal 7 p)) ↔ (FirstBad aimOf w p × (codeCharacter (getD w p 0) ≡ false))
+seven-exactly-when w p = aim-refused w (refusal 7 p) refl (reference-places .seven-exactly-when w p)
+
+-- 20 exactly when it is one
+pub twenty-exactly-when : (w : List ℕ) (p : ℕ) → (targetText w ≡ refused (refusal 20 p)) ↔ (FirstBad aimOf w p × (codeCharacter (getD w p 0) ≡ true))
+twenty-exactly-when w p = aim-refused w (refusal 20 p) refl (reference-places .twenty-exactly-when w p)
+
+-- a hyphen is no code character: anywhere but at its place it is garbled
+pub hyphen-garbled : codeCharacter HYPHEN ≡ false
+unfolding digitOf
+hyphen-garbled = refl
 
 -- ---- 7: each answer exactly when its reason holds, in the paper's order
 
@@ -197,22 +212,22 @@ module _ (base goal : List ℕ) where
   target-refused b e = rw (b .1, e) refl
 
   why-written : WhyWritten base goal (referenceText base goal)
-  why-written = elim (plane-places .accepted-six-or-seven base) [
-    | inl b ↦ elim (plane-places .accepted-six-or-seven goal) [
+  why-written = elim (plane-places .accepted-six-or-wrong base) [
+    | inl b ↦ elim (plane-places .accepted-six-or-wrong goal) [
       | inl t ↦ why-spanned (b .0) (t .0) (record { base-is = b .1; target-is = t .1 })
       | inr (inl e) ↦ because (target-refused b e) (target-six b (plane-places .six-exactly-when goal .0 e))
-      | inr (inr e) ↦ because (target-refused b (e .1)) (target-seven b (plane-places .seven-exactly-when goal (e .0) .0 (e .1)))
+      | inr (inr e) ↦ because (target-refused b (e .1)) (target-wrong b (plane-places .wrong-exactly-when goal (e .0) .0 (e .1)))
     ]
     | inr (inl e) ↦ because (base-refused e) (base-six (plane-places .six-exactly-when base .0 e))
-    | inr (inr e) ↦ because (base-refused (e .1)) (base-seven (plane-places .seven-exactly-when base (e .0) .0 (e .1)))
+    | inr (inr e) ↦ because (base-refused (e .1)) (base-wrong (plane-places .wrong-exactly-when base (e .0) .0 (e .1)))
   ]
 
   -- and what has its reason is answered
   so-written : (t : Answer (List ℕ)) → WhyWritten base goal t → referenceText base goal ≡ t
   so-written _ (base-six n) = base-refused (plane-places .six-exactly-when base .1 n)
-  so-written _ (base-seven {p} b) = base-refused (plane-places .seven-exactly-when base p .1 b)
+  so-written _ (base-wrong {p} b) = base-refused (plane-places .wrong-exactly-when base p .1 b)
   so-written _ (target-six a n) = target-refused a (plane-places .six-exactly-when goal .1 n)
-  so-written _ (target-seven {p} a b) = target-refused a (plane-places .seven-exactly-when goal p .1 b)
+  so-written _ (target-wrong {p} a b) = target-refused a (plane-places .wrong-exactly-when goal p .1 b)
   so-written _ (eight {b} {t} c p) = not-both b t c p
   so-written _ (nine {b} {t} c p d) = not-one-level b t c p d
   so-written _ (ten {b} {t} c p l none) =
@@ -249,15 +264,15 @@ module _ (w : List ℕ) where
 
   why-read : WhyRead w (targetText w)
   unfolding targetText
-  why-read = elim (reference-places .accepted-six-or-seven w) [
+  why-read = elim (reference-places .accepted-six-or-wrong w) [
     | inl a ↦ why-formed (formed-of w (a .0) (a .1) .0)
     | inr (inl e) ↦ (let z = then-refused targetOf e in subst (WhyRead w) z (six (six-exactly-when w .0 (sym z))))
-    | inr (inr e) ↦ (let z = then-refused targetOf (e .1) in subst (WhyRead w) z (seven (seven-exactly-when w (e .0) .0 (sym z))))
+    | inr (inr e) ↦ (let z = then-refused targetOf (e .1) in subst (WhyRead w) z (wrong (wrong-exactly-when w (e .0) .0 (sym z))))
   ]
 
   so-read : (t : Answer (List ℕ)) → WhyRead w t → targetText w ≡ t
   so-read _ (six n) = six-exactly-when w .1 n
-  so-read _ (seven {p} b) = seven-exactly-when w p .1 b
+  so-read _ (wrong {p} b) = wrong-exactly-when w p .1 b
   so-read _ (not-fit f p) = base-unfit f p
   so-read _ (twelve f p h) = leads-pole f p h
   so-read _ (target {goal} l) = of-leads w goal l

@@ -1,5 +1,5 @@
 -- What a reference code and its offset mean, and which answer is given when: the writer's and the reader's, each with its reason,
--- in document 01's order.
+-- in the documents' order.
 -- Assumes nothing.
 use mathlib.Core.Path.{_≡_}
 use mathlib.Core.Bool.{true, false, _&&_}
@@ -9,7 +9,7 @@ use lib.IntN.{ℤ, pos, _+ℤ_, _*ℤ_}
 use lib.ListN.{length}
 use Rattle.grid.specs.declared.Cell.{Cell}
 use Rattle.grid.specs.Units.{POLAR, index}
-use Rattle.grid.specs.Answers.{Answer, accepted, refused, refusal, about, wrongLength, wrongCharacter}
+use Rattle.grid.specs.Answers.{Answer, accepted, refused, refusal, about, wrongLength, wrongAt}
 use Rattle.grid.specs.Cells.{around}
 use Rattle.grid.specs.Places.{among, Accepted, FirstBad}
 use Rattle.grid.specs.Splits.{planeLengths}
@@ -69,12 +69,12 @@ pub record CodesOf (base goal : List ℕ) (b t : Cell) : Type 0 where
 
 -- the writer's answers to a base's code and a target's
 pub data WhyWritten (base goal : List ℕ) : Answer (List ℕ) → Type 0 where
-  -- 6 and 7 of the base: its length is no plane code's; p is the first place at which no plane code of its length goes on
+  -- 6, and 7 or 20, of the base: its length is no plane code's; p is the first place at which no plane code of its length goes on
   base-six : among (length base) planeLengths ≡ false → WhyWritten base goal (refused wrongLength)
-  base-seven : {p : ℕ} → FirstBad cellOf base p → WhyWritten base goal (refused (wrongCharacter p))
-  -- 6 and 7 of the target, with ordinal 2: the base is accepted
+  base-wrong : {p : ℕ} → FirstBad cellOf base p → WhyWritten base goal (refused (wrongAt base p))
+  -- 6, and 7 or 20, of the target, with ordinal 2: the base is accepted
   target-six : Accepted cellOf base → among (length goal) planeLengths ≡ false → WhyWritten base goal (refused (about 2 wrongLength))
-  target-seven : {p : ℕ} → Accepted cellOf base → FirstBad cellOf goal p → WhyWritten base goal (refused (about 2 (wrongCharacter p)))
+  target-wrong : {p : ℕ} → Accepted cellOf base → FirstBad cellOf goal p → WhyWritten base goal (refused (about 2 (wrongAt goal p)))
   -- 8: base or target is below level 5 or polar
   eight : {b t : Cell} → CodesOf base goal b t → (fit b && fit t) ≡ false → WhyWritten base goal (refused (refusal 8 0))
   -- 9: neither is, and their levels differ
@@ -91,8 +91,8 @@ pub data WhyWritten (base goal : List ℕ) : Answer (List ℕ) → Type 0 where
 pub data WhyRead (w : List ℕ) : Answer (List ℕ) → Type 0 where
   -- 6: the total less 3 is no plane length
   six : among (length w - 3) planeLengths ≡ false → WhyRead w (refused wrongLength)
-  -- 7: p is the first place at which no reference code of that length, wherever it leads, goes on
-  seven : {p : ℕ} → FirstBad aimOf w p → WhyRead w (refused (wrongCharacter p))
+  -- 7 or 20: p is the first place at which no reference code of that length, wherever it leads, goes on
+  wrong : {p : ℕ} → FirstBad aimOf w p → WhyRead w (refused (wrongAt w p))
   -- 8: the base is below level 5 or polar
   not-fit : (f : Formed w) → fit (f .from) ≡ false → WhyRead w (refused (refusal 8 0))
   -- 12: the base is neither, and the code leads to 88° or nearer a pole

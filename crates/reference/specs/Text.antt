@@ -44,13 +44,13 @@ spelled w b t =
 unfoldable pub spanned : List ℕ → Cell → Cell → Answer (List ℕ)
 spanned w b t = unless (fit b && fit t) (refusal 8 0) (unless (eqb (b .level) (t .level)) (refusal 9 0) (spelled w b t))
 
--- 6 or 7 of the base, then of the target, which is the second code
+-- 6, 7 or 20 of the base, then of the target, which is the second code
 abbrev pub related : List ℕ → Answer Cell → Answer Cell → Answer (List ℕ)
 related w (refused r) t = refused r
 related w (accepted b) (refused r) = refused (about 2 r)
 related w (accepted b) (accepted t) = spanned w b t
 
--- what the writer is to write: 6, 7 of the base, 6, 7 of the target, 8, 9, 10 in that order, else the reference code
+-- what the writer is to write: 6, 7 or 20 of the base, 6, 7 or 20 of the target, 8, 9, 10 in that order, else the reference code
 unfoldable pub referenceText : List ℕ → List ℕ → Answer (List ℕ)
 referenceText base target = related base (cellOf base) (cellOf target)
 
@@ -73,12 +73,12 @@ targetOf a =
     unless (fit (a .from)) (refusal 8 0)
     (unless (ltb (index (s .latitude)) POLAR) (refusal 12 0) (accepted (codeOf (a .from .level) s)))
 
--- M and N by themselves, with no base: the hyphen at place k and two offset digits, as the three characters h, m and n; 7 at the first that is wrong
+-- M and N by themselves, with no base: the hyphen at place k and two offset digits, as the three characters h, m and n; 7 or 20 at the first that is wrong
 unfoldable pub offsetIn : ℕ → ℕ → ℕ → ℕ → Answer (ℕ × ℕ)
 offsetIn k h m n =
-    unless (eqb h HYPHEN) (wrongCharacter k)
-    (unless (offsetDigit (digitOf m)) (wrongCharacter (k + 1))
-    (unless (offsetDigit (digitOf n)) (wrongCharacter (k + 2)) (accepted (digitOf m, digitOf n))))
+    unless (eqb h HYPHEN) (wrongCharacter k h)
+    (unless (offsetDigit (digitOf m)) (wrongCharacter (k + 1) m)
+    (unless (offsetDigit (digitOf n)) (wrongCharacter (k + 2) n) (accepted (digitOf m, digitOf n))))
 
 -- the base, k bytes long, is read; then the hyphen, M and N behind it
 abbrev pub aimed : ℕ → ℕ → ℕ → ℕ → Answer Cell → Answer Aim
@@ -88,7 +88,7 @@ aimed k h m n base = andThen base (λ b. andThen (offsetIn k h m n) (λ o. accep
 abbrev pub aimedAt : List ℕ → ℕ → Answer Aim
 aimedAt w k = aimed k (getD w k 0) (getD w (k + 1) 0) (getD w (k + 2) 0) (cellOf (take k w))
 
--- the base, M and N of a reference code; 6 where the total less 3 is no plane length, or 7 with its place in the whole code
+-- the base, M and N of a reference code; 6 where the total less 3 is no plane length, or 7 or 20 with its place in the whole code
 abbrev pub aimOf : List ℕ → Answer Aim
 aimOf w = aimedAt w (length w - 3)
 
@@ -96,6 +96,6 @@ aimOf w = aimedAt w (length w - 3)
 abbrev pub referenceLengths : List ℕ
 referenceLengths = map (λ k. k + 3) planeLengths
 
--- what the reader is to write: 6, 7, 8, 12 in that order, else the target's plane code
+-- what the reader is to write: 6, 7 or 20, 8, 12 in that order, else the target's plane code
 unfoldable pub targetText : List ℕ → Answer (List ℕ)
 targetText w = andThen (aimOf w) targetOf

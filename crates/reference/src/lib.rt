@@ -108,7 +108,7 @@ fn spans(b: Cell, t: Cell) -> Offset
     Offset::Refused(grid::refuse(8))
 }
 
-// The target's 6 or 7, else what lies between the two.
+// The target's 6, 7 or 20, else what lies between the two.
 fn spans_to(b: Cell, t: PlaneRead) -> Offset
     requires { ⌜ Known b ⌝ }
     ensures { λ r. ⌜ ((w : List ℕ) → offsetText r w ≡ related w (accepted b) (planeRead t)) × Small r ⌝ }
@@ -119,7 +119,7 @@ fn spans_to(b: Cell, t: PlaneRead) -> Offset
     }
 }
 
-// The base's 6 or 7, then the target's, else what lies between the two.
+// The base's 6, 7 or 20, then the target's, else what lies between the two.
 fn relate(b: PlaneRead, t: PlaneRead) -> Offset
     requires { ⌜ AsRead b ⌝ }
     ensures { λ r. ⌜ ((w : List ℕ) → offsetText r w ≡ related w (planeRead b) (planeRead t)) × Small r ⌝ }
@@ -210,7 +210,7 @@ fn target_of(b: Cell, m: u32, n: u32) -> Goal
     Goal::Refused(grid::refuse(8))
 }
 
-// The hyphen at place k, M and N: refusal 7, else the two digits. They are read by themselves: a base is not needed for it.
+// The hyphen at place k, M and N: refusal 7 or 20, else the two digits. They are read by themselves: a base is not needed for it.
 fn offset_in(k: usize, h: u8, m: u8, n: u8) -> Offset
     requires { ⌜ k < 18446744073709551613 ⌝ }
     ensures { λ r. ⌜ offsetAnswer r ≡ offsetIn k h m n ⌝ }
@@ -218,18 +218,18 @@ fn offset_in(k: usize, h: u8, m: u8, n: u8) -> Offset
     let u = grid::digit(m);
     let v = grid::digit(n);
     if h != b'-' {
-        return Offset::Refused(grid::wrong_character(k));
+        return Offset::Refused(grid::wrong_character(k, h));
     }
     if is_offset(u) {
         if is_offset(v) {
             return Offset::By(u, v);
         }
-        return Offset::Refused(grid::wrong_character(k + 2));
+        return Offset::Refused(grid::wrong_character(k + 2, n));
     }
-    Offset::Refused(grid::wrong_character(k + 1))
+    Offset::Refused(grid::wrong_character(k + 1, m))
 }
 
-// The 7 of the hyphen, M and N, else where they lead from the base.
+// The 7 or 20 of the hyphen, M and N, else where they lead from the base.
 fn offset_from(b: Cell, k: usize, h: u8, m: u8, n: u8) -> Goal
     requires { ⌜ Known b × (k < 18446744073709551613) ⌝ }
     ensures { λ r. ⌜ (goalText r ≡ andThen (aimed k h m n (accepted b)) targetOf) × Layable r ⌝ }
@@ -240,7 +240,7 @@ fn offset_from(b: Cell, k: usize, h: u8, m: u8, n: u8) -> Goal
     }
 }
 
-// The base's 6 or 7, else what follows it.
+// The base's 6, 7 or 20, else what follows it.
 fn aim(base: PlaneRead, k: usize, h: u8, m: u8, n: u8) -> Goal
     requires { ⌜ AsRead base × (k < 18446744073709551613) ⌝ }
     ensures { λ r. ⌜ (goalText r ≡ andThen (aimed k h m n (planeRead base)) targetOf) × Layable r ⌝ }
@@ -328,7 +328,7 @@ fn lay_target(a: Goal, line: &mut [u8], at: usize) -> Written
 
 // ---- the two calls
 
-// What leads from the base's code to the target's: refusals 6, 7 of the base; 6, 7 of the target, with ordinal 2; 8, 9, 10; else M and N.
+// What leads from the base's code to the target's: refusals 6, 7 or 20 of the base; 6, 7 or 20 of the target, with ordinal 2; 8, 9, 10; else M and N.
 fn offset_to(base: &[u8], target: &[u8]) -> Offset
     ensures { λ r. ⌜ (offsetText r (now (base .entry)) ≡ referenceText (now (base .entry)) (now (target .entry))) × Small r ⌝ }
 {
@@ -338,7 +338,7 @@ fn offset_to(base: &[u8], target: &[u8]) -> Offset
 }
 
 // The reference code that leads from the base's plane code to the target's, written into the line from `at` on.
-// Refusals, in this order: 6, 7 of the base; 6, 7 of the target, with ordinal 2; 8, 9, 10, 5. A refusal changes no byte.
+// Refusals, in this order: 6, 7 or 20 of the base; 6, 7 or 20 of the target, with ordinal 2; 8, 9, 10, 5. A refusal changes no byte.
 pub fn write(base: &[u8], target: &[u8], line: &mut [u8], at: usize) -> Written
     ensures { λ r. ⌜ (written r, now (line .exit)) ≡ laid (referenceText (now (base .entry)) (now (target .entry))) (now (line .entry)) at ⌝ }
 {
@@ -346,7 +346,7 @@ pub fn write(base: &[u8], target: &[u8], line: &mut [u8], at: usize) -> Written
     lay_offset(o, base, line, at)
 }
 
-// Where a reference code leads: refusals 6, 7, 8, 12; else the target's level and place.
+// Where a reference code leads: refusals 6, 7 or 20, 8, 12; else the target's level and place.
 fn goal_of(code: &[u8]) -> Goal
     ensures { λ r. ⌜ (goalText r ≡ targetText (now (code .entry))) × Layable r ⌝ }
 {
@@ -360,7 +360,7 @@ fn goal_of(code: &[u8]) -> Goal
 }
 
 // The plane code that a reference code leads to, written into the line from `at` on.
-// Refusals, in this order: 6, 7, 8, 12, 5. A refusal changes no byte.
+// Refusals, in this order: 6, 7 or 20, 8, 12, 5. A refusal changes no byte.
 pub fn read(code: &[u8], line: &mut [u8], at: usize) -> Written
     ensures { λ r. ⌜ (written r, now (line .exit)) ≡ laid (targetText (now (code .entry))) (now (line .entry)) at ⌝ }
 {

@@ -15,7 +15,7 @@ use Rattle.grid.specs.declared.Cell.{Cell}
 use Rattle.grid.specs.declared.SpaceCell.{SpaceCell}
 use Rattle.grid.specs.Characters.{digitOf}
 use Rattle.grid.specs.Tree.{Read, ok, bad, follow}
-use Rattle.grid.specs.Answers.{Answer, refused, wrongLength, wrongCharacter}
+use Rattle.grid.specs.Answers.{Answer, refused, wrongLength, wrongCharacter, wrongAt}
 use Rattle.grid.specs.Codes.{placeIn, answer, answerAt, readIn}
 use Rattle.grid.specs.Splits.{splits, splitAt}
 use Rattle.grid.specs.Plane.{Node, globe, plane, planeCodes, cellOf}
@@ -23,7 +23,7 @@ use Rattle.grid.specs.Layers.{ours, Stack, all, part, layers}
 use Rattle.grid.specs.Space.{space, spaceCodes, spaceCellOf, spaceLengths}
 use Rattle.grid.specs.inner.Standing.{planePlace, heightPlace, countFrom, planeIn}
 use Rattle.grid.proofs.Cut.{below}
-use Rattle.grid.proofs.Standing.{given-length}
+use Rattle.grid.proofs.Standing.{height-in, given-length, plane-at}
 use Rattle.grid.proofs.Laws.{total, follow-ends}
 use Rattle.grid.proofs.PlaneLaws.{laws, splits-fit}
 use Rattle.grid.proofs.LayerLaws.{layer-laws}
@@ -106,12 +106,12 @@ height-total true (suc l) a b = eqb-true _ _ (below (λ l. eqb (total (layers (t
 height-total false (suc l) a b = eqb-true _ _ (below (λ l. eqb (total (layers (topOf false)) (take (suc l) (heightLevels (radicesOf false)))) (2 + suc l)) 10 l refl (omega arith))
 
 -- the lesser of two places is that of the earlier refusal
-lesser : (p q : ℕ) → wrongCharacter (min p q) ≡ earlier (wrongCharacter p) (wrongCharacter q)
-lesser p q = go (ltb p q) refl
+lesser : (w : List ℕ) (p q : ℕ) → wrongAt w (min p q) ≡ earlier (wrongAt w p) (wrongAt w q)
+lesser w p q = go (ltb p q) refl
   where
-    go : (t : Bool) → ltb p q ≡ t → wrongCharacter (min p q) ≡ cond t (wrongCharacter p) (wrongCharacter q)
-    go true e = let h : p < q = ltb-true p q e in ap wrongCharacter (omega arith)
-    go false e = let h : q ≤ p = ltb-false p q e in ap wrongCharacter (omega arith)
+    go : (t : Bool) → ltb p q ≡ t → wrongAt w (min p q) ≡ cond t (wrongAt w p) (wrongAt w q)
+    go true e = let h : p < q = ltb-true p q e in ap (wrongAt w) (omega arith)
+    go false e = let h : q ≤ p = ltb-false p q e in ap (wrongAt w) (omega arith)
 
 module _ (second : Bool) (l : ℕ) (low : 1 ≤ l) (high : l ≤ 10) where
   abbrev rs : List ℕ
@@ -135,20 +135,23 @@ module _ (second : Bool) (l : ℕ) (low : 1 ≤ l) (high : l ≤ 10) where
       let t = height-total second l low high in
       subst (λ (x : ℕ). q < x) t (follow-ends (layers top) (layer-laws top) (take l (heightLevels rs)) all d q (levels-fit rs l (edition-fair second)) (e ∙ sym t) f .inside)
 
-  -- the two readings, as answers and together
-  as-joined : (ra : Read Node) (rb : Read Stack) → ((p : ℕ) → ra ≡ bad p → p < splitAt (l - 1) .length) → ((q : ℕ) → rb ≡ bad q → q < 2 + l)
-      → unfold planeCodes spaceCodes in (answer (spaceCodes rs) l (together (take l tenStrands) ra rb) ≡ joinedAnswer (answer planeCodes l ra) (heightsIn top rb))
+  -- the two readings of the space code w, whose plane code is v, as answers and together
+  as-joined : (v w : List ℕ) → ((p : ℕ) → p < splitAt (l - 1) .length → getD v p 0 ≡ getD w (planePlace p) 0)
+      → (ra : Read Node) (rb : Read Stack) → ((p : ℕ) → ra ≡ bad p → p < splitAt (l - 1) .length) → ((q : ℕ) → rb ≡ bad q → q < 2 + l)
+      → unfold planeCodes spaceCodes in (answer (spaceCodes rs) w l (together (take l tenStrands) ra rb) ≡ joinedAnswer w (answer planeCodes v l ra) (heightsIn top rb))
   unfolding planeCodes spaceCodes
-  as-joined (ok n) (ok m) ha hb = refl
-  as-joined (ok n) (bad q) ha hb = ap (λ (x : ℕ). refused (wrongCharacter x)) (height-place l C q (hb q refl))
-  as-joined (bad p) (ok m) ha hb = ap (λ (x : ℕ). refused (wrongCharacter x)) (plane-place l C p (ha p refl))
-  as-joined (bad p) (bad q) ha hb =
-      ap (λ (x : ℕ). refused (wrongCharacter (min x (placeTwo (take l tenStrands) q)))) (plane-place l C p (ha p refl))
-      ∙ ap (λ (x : ℕ). refused (wrongCharacter (min (planePlace p) x))) (height-place l C q (hb q refl))
-      ∙ ap refused (lesser (planePlace p) (heightPlace q))
+  as-joined v w s (ok n) (ok m) ha hb = refl
+  as-joined v w s (ok n) (bad q) ha hb = ap (λ (x : ℕ). refused (wrongAt w x)) (height-place l C q (hb q refl))
+  as-joined v w s (bad p) (ok m) ha hb =
+      ap (λ (x : ℕ). refused (wrongAt w x)) (plane-place l C p (ha p refl)) ∙ ap (λ (b : ℕ). refused (wrongCharacter (planePlace p) b)) (sym (s p (ha p refl)))
+  as-joined v w s (bad p) (bad q) ha hb =
+      ap (λ (x : ℕ). refused (wrongAt w (min x (placeTwo (take l tenStrands) q)))) (plane-place l C p (ha p refl))
+      ∙ ap (λ (x : ℕ). refused (wrongAt w (min (planePlace p) x))) (height-place l C q (hb q refl))
+      ∙ ap refused (lesser w (planePlace p) (heightPlace q))
+      ∙ ap (λ (b : ℕ). refused (earlier (wrongCharacter (planePlace p) b) (wrongAt w (heightPlace q)))) (sym (s p (ha p refl)))
 
   -- a plane code of this length is read level by level
-  cell-of : (v : List ℕ) → length v ≡ splitAt (l - 1) .length → unfold planeCodes in (cellOf v ≡ answer planeCodes l (follow plane (take l splits) globe (map digitOf v)))
+  cell-of : (v : List ℕ) → length v ≡ splitAt (l - 1) .length → unfold planeCodes in (cellOf v ≡ answer planeCodes v l (follow plane (take l splits) globe (map digitOf v)))
   unfolding cellOf readIn planeCodes
   cell-of v e = rw (e ∙ sym (plane-total l low high), length-level planeCodes plane-sound l low high) refl
 
@@ -165,7 +168,7 @@ module _ (second : Bool) (l : ℕ) (low : 1 ≤ l) (high : l ≤ 10) where
         ∙ rw (plane-levels second l, height-levels second l, level-strands second l, parts-map sliced-one digitOf S w, parts-map sliced-two digitOf S w) refl
 
     pub read-parts : placeIn (length w) 1 spaceLengths ≡ some l
-        → joinedAnswer (cellOf (planeIn true l w)) (heightsIn top (heightRead rs l (map digitOf (standing l w)))) ≡ spaceCellOf rs w
+        → joinedAnswer w (cellOf (planeIn true l w)) (heightsIn top (heightRead rs l (map digitOf (standing l w)))) ≡ spaceCellOf rs w
     unfolding spaceCellOf readIn spaceCodes planeCodes
     read-parts q =
         let a = plane-same l C w long in
@@ -173,15 +176,16 @@ module _ (second : Bool) (l : ℕ) (low : 1 ≤ l) (high : l ≤ 10) where
         let fa = firsts S w in
         let fb = seconds S w in
         rw (a, b, q, both-read, cell-of fa (plane-long l C w long))
-        (sym (as-joined (follow plane (take l splits) globe (map digitOf fa)) (heightRead rs l (map digitOf fb))
+        (sym (as-joined fa w (λ p h. ap (λ (x : List ℕ). getD x p 0) (sym a) ∙ plane-at l w low high true p h)
+        (follow plane (take l splits) globe (map digitOf fa)) (heightRead rs l (map digitOf fb))
         (λ p e. plane-inside (map digitOf fa) p (length-map fa digitOf ∙ plane-long l C w long) e)
         (λ p e. height-inside (map digitOf fb) p (length-map fb digitOf ∙ height-long l C w long) e)))
 
 -- the reader's answer, from its two parts' answers
-pub read-joined : (second : Bool) (w : List ℕ) (l : ℕ) → Leveled (length w) l → {r : Answer SpaceCell} {a : Answer Cell} {b : Read (ℤ × ℕ)} → r ≡ joinedAnswer a b
+pub read-joined : (second : Bool) (w : List ℕ) (l : ℕ) → Leveled (length w) l → {r : Answer SpaceCell} {a : Answer Cell} {b : Read (ℤ × ℕ)} → r ≡ joinedAnswer w a b
     → a ≡ cellOf (planeIn true l w) → b ≡ heightsIn (topOf second) (heightRead (radicesOf second) l (map digitOf (standing l w))) → r ≡ spaceCellOf (radicesOf second) w
 read-joined second w l t {a = a} {b = b} e f g =
-    e ∙ ap (λ x. joinedAnswer x b) f ∙ ap (λ x. joinedAnswer (cellOf (planeIn true l w)) x) g
+    e ∙ ap (λ x. joinedAnswer w x b) f ∙ ap (λ x. joinedAnswer w (cellOf (planeIn true l w)) x) g
     ∙ read-parts second l (t .low) (t .high) w (t .long) (t .place)
 
 -- ---- the height characters
@@ -199,3 +203,7 @@ lying second l ds e = let r = read-inside (radicesOf second) l ds (edition-fair 
 pub height-few : (second : Bool) (l : ℕ) (w : List ℕ) → 1 ≤ l → l ≤ 10 → {p : ℕ} → bad p ≡ heightRead (radicesOf second) l (map digitOf (standing l w)) → p < 2 + l
 height-few second l w low high {p} e =
     height-inside second l low high (map digitOf (standing l w)) p (length-map (standing l w) digitOf ∙ standing-long l w high) (sym e)
+
+-- and stands in the code
+pub height-stands : {l n p : ℕ} → SpaceCode l n → p < 2 + l → heightPlace p < n
+height-stands {l} {n} {p} s h = rw (s .long) (height-in l p (s .most) (omega arith))

@@ -3,8 +3,8 @@
 // places come from `grid`.
 
 ghost use mathlib.Core.Path.{_≡_};
-ghost use mathlib.Core.List.{map};
-ghost use Prim.Native.Nat.{_-_, _≤_, _<_};
+ghost use mathlib.Core.List.{List, map};
+ghost use Prim.Native.Nat.{ℕ, _-_, _≤_, _<_};
 ghost use lib.ListN.{length, getD};
 ghost use lib.Seq.{sets};
 ghost use Rattle.grid.specs.Units.{HALF, QUARTER};
@@ -21,7 +21,7 @@ ghost use Rattle.layers.specs.inner.Steps.{layerOf, standing};
 ghost use Rattle.plane.specs.inner.Lengths.{SpaceCode};
 ghost use Rattle.space.specs.Space.{layeredText, spaceTextAt, spaceTextIn, spaceText, spaceRead};
 ghost use Rattle.space.specs.inner.Asking.{SpaceFits};
-ghost use Rattle.space.specs.inner.Parts.{spaceLevelOf, earlier, heightsIn, heightsRead, joinedAnswer};
+ghost use Rattle.space.specs.inner.Parts.{spaceLevelOf, earlier, heightsIn, heightsRead, BadWithin, joinedAnswer};
 use grid::Cell;
 use grid::Place;
 use grid::PlaneRead;
@@ -209,7 +209,7 @@ fn earlier(r: Refusal, q: Refusal) -> Refusal
 
 // The plane's answer over layers that were read: the cell with them, or the bad plane character.
 fn over_layers(a: PlaneRead, floor: i32, thick: u32) -> SpaceRead
-    ensures { λ r. ⌜ spaceRead r ≡ joinedAnswer (planeRead a) (ok (floor, thick)) ⌝ }
+    ensures { λ r. ⌜ ((w : List ℕ) → spaceRead r ≡ joinedAnswer w (planeRead a) (ok (floor, thick))) ⌝ }
 {
     match a {
         PlaneRead::Found(c) => SpaceRead::Found(SpaceCell {
@@ -222,10 +222,11 @@ fn over_layers(a: PlaneRead, floor: i32, thick: u32) -> SpaceRead
 }
 
 // A bad height character, unless a bad plane character stands before it.
-fn over_bad(a: PlaneRead, place: usize) -> SpaceRead
-    ensures { λ r. ⌜ spaceRead r ≡ joinedAnswer (planeRead a) (bad place) ⌝ }
+fn over_bad(a: PlaneRead, place: usize, code: &[u8]) -> SpaceRead
+    requires { ⌜ place < length (now code) ⌝ }
+    ensures { λ r. ⌜ spaceRead r ≡ joinedAnswer (now (code .entry)) (planeRead a) (bad place) ⌝ }
 {
-    let high = grid::wrong_character(place);
+    let high = grid::wrong_character(place, code[place]);
     match a {
         PlaneRead::Found(c) => SpaceRead::Refused(high),
         PlaneRead::Refused(r) => SpaceRead::Refused(earlier(
@@ -236,19 +237,20 @@ fn over_bad(a: PlaneRead, place: usize) -> SpaceRead
 }
 
 // Both answers together.
-fn joined(a: PlaneRead, h: Heights) -> SpaceRead
-    ensures { λ r. ⌜ spaceRead r ≡ joinedAnswer (planeRead a) (heightsRead h) ⌝ }
+fn joined(a: PlaneRead, h: Heights, code: &[u8]) -> SpaceRead
+    requires { ⌜ BadWithin (length (now code)) h ⌝ }
+    ensures { λ r. ⌜ spaceRead r ≡ joinedAnswer (now (code .entry)) (planeRead a) (heightsRead h) ⌝ }
 {
     match h {
         Heights::Found(floor, thick) => over_layers(a, floor, thick),
-        Heights::Bad(place) => over_bad(a, place),
+        Heights::Bad(place) => over_bad(a, place, code),
     }
 }
 
 // The height characters of a space code, read where they stand.
 fn height_of(second: bool, level: u32, code: &[u8]) -> Heights
     requires { ⌜ SpaceCode level (length (now code)) ⌝ }
-    ensures { λ r. ⌜ heightsRead r ≡ heightsIn (product (radicesOf second)) (heightRead (radicesOf second) level (map digitOf (standing level (now (code .entry))))) ⌝ }
+    ensures { λ r. ⌜ (heightsRead r ≡ heightsIn (product (radicesOf second)) (heightRead (radicesOf second) level (map digitOf (standing level (now (code .entry)))))) × BadWithin (length (now (code .entry))) r ⌝ }
 {
     match layers::read(second, level, code) {
         LayersRead::Found(above, low, thick) => {
@@ -258,7 +260,7 @@ fn height_of(second: bool, level: u32, code: &[u8]) -> Heights
     }
 }
 
-// The space cell of a space code of an edition: refusals 6 and 7, in that order.
+// The space cell of a space code of an edition. Refusals, in order: 6, 7 or 20.
 fn read_in(second: bool, code: &[u8]) -> SpaceRead
     ensures { λ r. ⌜ spaceRead r ≡ spaceCellOf (radicesOf second) (now (code .entry)) ⌝ }
 {
@@ -269,10 +271,10 @@ fn read_in(second: bool, code: &[u8]) -> SpaceRead
     // The height first: its answer stays in registers while the plane code is read.
     let h = height_of(second, level, code);
     let a = plane::read_in_space(level, code);
-    joined(a, h)
+    joined(a, h, code)
 }
 
-// The space cell of a space code of an edition by its number. Refusals 13, 6 and 7, in that order; 7 has the place of the first bad character in the
+// The space cell of a space code of an edition by its number. Refusals, in order: 13, 6, 7 or 20 with the place of the first bad character in the
 // whole space code.
 pub fn read(edition: i64, code: &[u8]) -> SpaceRead
     ensures { λ r. ⌜ spaceRead r ≡ spaceCellIn edition (now (code .entry)) ⌝ }

@@ -1,5 +1,6 @@
-//! Wish 3 of document 02 in worked cases, asked of the oracle. The cells are
-//! those of document 01: N31A is 0° to 6° east, 0° to 4° north.
+//! Wish 3 of document 02 in worked cases, asked of the oracle, with the numbers
+//! of Wish 5. The cells are those of document 01: N31A is 0° to 6° east, 0° to 4°
+//! north.
 
 use super::{plain, release, Kind, Request, Reservation, MOST};
 use crate::cases::{nothing, Random, ZEROS};
@@ -60,9 +61,11 @@ fn refusals_in_order() {
     assert_eq!(release(999, &mut live).0, refused(19, 0));
     let book = &mut live[..MOST];
     assert_eq!(plane("n31A0", 3, (1, 1), book), refused(6, 0));
-    assert_eq!(plane("N00A", 3, (1, 1), book), refused(7, 3));
+    assert_eq!(plane("N00A", 3, (1, 1), book), refused(20, 3));
+    assert_eq!(plane("N00-", 3, (1, 1), book), refused(7, 3));
     assert_eq!(space("N031A0000000F", 3, (1, 1), book), refused(6, 0));
-    assert_eq!(space("N031A000000000F", 3, (1, 1), book), refused(7, 14));
+    assert_eq!(space("N031A000000000F", 3, (1, 1), book), refused(20, 14));
+    assert_eq!(space("N031A000000000f", 3, (1, 1), book), refused(7, 14));
     assert_eq!(plane("N31A", 3, (1, 1), book), refused(14, 0));
     assert_eq!(plane("N31A", 3, (u32::MAX, 0), book), refused(14, 0));
     assert_eq!(plane("N31A", 3, (1, 2), book), refused(15, 0));

@@ -27,7 +27,8 @@ use Call::*;
 pub type Named = (u32, u32);
 
 /// A refusal, and those before it in the order under which it has no meaning: a code without a level has no length that a line could lack, one
-/// that cannot be read has no cell, and a start not before the end no minute.
+/// that cannot be read has no cell, and a start not before the end no minute. 7 and 20 are neighbours that share one place of the order: a code's
+/// first bad character is either garbled or misplaced.
 type Ordered = (Named, &'static [Named]);
 
 impl Call {
@@ -90,27 +91,37 @@ impl Call {
         match self {
             PlaneWrite => &[((1, 1), &[]), ((2, 1), &[]), ((3, 1), &[]), ((5, 1), &[(1, 1)])],
             SpaceWrite1 | SpaceWrite2 => &[((1, 1), &[]), ((13, 1), &[]), ((2, 1), &[]), ((3, 1), &[]), ((4, 1), &[]), ((5, 1), &[(1, 1)])],
-            PlaneRead | PlaneBox => &[((6, 1), &[]), ((7, 1), &[])],
-            SpaceRead1 | SpaceRead2 => &[((13, 1), &[]), ((6, 1), &[]), ((7, 1), &[])],
+            PlaneRead | PlaneBox => &[((6, 1), &[]), ((7, 1), &[]), ((20, 1), &[(7, 1)])],
+            SpaceRead1 | SpaceRead2 => &[((13, 1), &[]), ((6, 1), &[]), ((7, 1), &[]), ((20, 1), &[(7, 1)])],
             ReferenceWrite => &[
                 ((6, 1), &[]),
                 ((7, 1), &[]),
+                ((20, 1), &[(7, 1)]),
                 ((6, 2), &[]),
                 ((7, 2), &[]),
+                ((20, 2), &[(7, 2)]),
                 ((8, 1), &[]),
-                ((9, 1), &[(6, 1), (7, 1), (6, 2), (7, 2)]),
-                ((10, 1), &[(6, 1), (7, 1), (6, 2), (7, 2)]),
+                ((9, 1), &[(6, 1), (7, 1), (20, 1), (6, 2), (7, 2), (20, 2)]),
+                ((10, 1), &[(6, 1), (7, 1), (20, 1), (6, 2), (7, 2), (20, 2)]),
                 ((5, 1), &[(6, 1)]),
             ],
-            ReferenceRead => &[((6, 1), &[]), ((7, 1), &[]), ((8, 1), &[(6, 1)]), ((12, 1), &[(6, 1), (7, 1)]), ((5, 1), &[(6, 1)])],
+            ReferenceRead => &[
+                ((6, 1), &[]),
+                ((7, 1), &[]),
+                ((20, 1), &[(7, 1)]),
+                ((8, 1), &[(6, 1)]),
+                ((12, 1), &[(6, 1), (7, 1), (20, 1)]),
+                ((5, 1), &[(6, 1)]),
+            ],
             Arcseconds => &[((11, 1), &[]), ((2, 1), &[]), ((3, 1), &[])],
             BookAddPlane | BookAddSpace => &[
                 ((19, 1), &[]),
                 ((6, 1), &[]),
                 ((7, 1), &[]),
+                ((20, 1), &[(7, 1)]),
                 ((14, 1), &[]),
                 ((15, 1), &[]),
-                ((16, 1), &[(6, 1), (7, 1), (14, 1)]),
+                ((16, 1), &[(6, 1), (7, 1), (20, 1), (14, 1)]),
                 ((17, 1), &[]),
             ],
             BookRelease => &[((19, 1), &[]), ((18, 1), &[])],
@@ -127,12 +138,13 @@ impl Call {
         self.ordered()[place].0
     }
 
-    /// The pairs of places at which two refusals can apply together; neighbours always can.
+    /// The pairs of places at which two refusals can apply together; neighbours always can, but for a code's 7 and 20.
     pub fn pairs(self) -> Vec<(usize, usize)> {
         let order = self.ordered();
         let together = |&(first, second): &(usize, usize)| {
-            let apart = order[second].1.contains(&order[first].0);
-            assert!(!apart || second > first + 1, "{self:?}: neighbours that cannot apply together");
+            let (earlier, (later, without)) = (order[first].0, order[second]);
+            let apart = without.contains(&earlier);
+            assert!(!apart || second > first + 1 || (earlier.0, later.0) == (7, 20), "{self:?}: neighbours that cannot apply together");
             !apart
         };
         let each = (0..order.len()).flat_map(|second| (0..second).map(move |first| (first, second)));

@@ -205,8 +205,8 @@ impl Run {
         let six = space::level_of(code.len()).is_none();
         for row in rows(edition) {
             let other = row as i64 != edition;
-            let seven = if six || other { space::any_bad(row, code) } else { own.is_err() };
-            self.count(Call::space_read(row), bits(&[other, six, seven]), own.err());
+            let bad = if six || other { space::bad(row, code) } else { own.err() };
+            self.count(Call::space_read(row), bits(&[other, six]) | bad_bits(bad) << 2, own.err());
             if let Ok(cell) = own {
                 let (flat, length) = space::plane_part(code);
                 self.accepted_space(Call::space_read(row), &flat[..length], cell.floor < 0);
@@ -237,15 +237,15 @@ impl Run {
         self.kept(&first, told);
         self.kept(&second, told);
         let (from, to) = (plane::read(base), plane::read(target));
-        let mut apply = reader_bits(base, from.err()) | reader_bits(target, to.err()) << 2;
+        let mut apply = reader_bits(base, from.err()) | reader_bits(target, to.err()) << 3;
         let eight = from.as_ref().is_ok_and(reference::unfit) || to.as_ref().is_ok_and(reference::unfit);
-        apply |= u32::from(eight) << 4;
+        apply |= u32::from(eight) << 6;
         if let (Ok(from), Ok(to)) = (from, to) {
             let far = reference::offsets(&from, &to).is_none() && (from.level == to.level || apart(&from, &to));
-            apply |= u32::from(from.level != to.level) << 5 | u32::from(far) << 6;
+            apply |= u32::from(from.level != to.level) << 7 | u32::from(far) << 8;
         }
         let short = length.saturating_sub(at) < base.len() + 3;
-        apply |= u32::from(short && plane::level_of(base.len()).is_some()) << 7;
+        apply |= u32::from(short && plane::level_of(base.len()).is_some()) << 9;
         self.count(Call::ReferenceWrite, apply, own.err());
         if own.is_ok() {
             self.accepted(Call::ReferenceWrite, base);
@@ -264,12 +264,11 @@ impl Run {
         let base = &code[..code.len().saturating_sub(3)];
         let six = plane::level_of(base.len()).is_none();
         let parts = reference::parts(code);
-        let seven = parts.is_err_and(|refusal| refusal.number == 7);
-        let hidden = six && plane::walk::whole(base).is_err();
+        let bad = if six { plane::bad(base) } else { parts.err() };
         let eight = plane::read(base).as_ref().is_ok_and(reference::unfit);
         let twelve = parts.is_ok_and(|(base, _, north)| reference::reaches_pole(&base, north));
         let five = !six && length.saturating_sub(at) < base.len();
-        self.count(Call::ReferenceRead, bits(&[six, seven || hidden, eight, twelve, five]), own.err());
+        self.count(Call::ReferenceRead, u32::from(six) | bad_bits(bad) << 1 | bits(&[eight, twelve, five]) << 3, own.err());
         if own.is_ok() {
             self.accepted(Call::ReferenceRead, base);
         }
@@ -308,11 +307,19 @@ fn rows(edition: i64) -> impl Iterator<Item = Edition> {
     Edition::BOTH.into_iter().filter(move |row| neither || *row as i64 == edition)
 }
 
-/// Whether 6 and whether 7 applies to a plane code, given its refusal.
+/// Which of 7 and 20 the refusal of a bad character is.
+fn bad_bits(bad: Option<Refusal>) -> u32 {
+    match bad.map(|bad| bad.number) {
+        Some(7) => 1,
+        Some(20) => 2,
+        _ => 0,
+    }
+}
+
+/// Which of 6, 7 and 20 apply to a plane code, given its refusal.
 fn reader_bits(code: &[u8], own: Option<Refusal>) -> u32 {
     let six = plane::level_of(code.len()).is_none();
-    let seven = if six { plane::walk::whole(code).is_err() } else { own.is_some() };
-    bits(&[six, seven])
+    u32::from(six) | bad_bits(if six { plane::bad(code) } else { own }) << 1
 }
 
 /// Cells of two levels that lie more than seven cells of either size apart.

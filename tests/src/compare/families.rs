@@ -2,10 +2,12 @@
 //! one is done round by round.
 
 use crate::checks::Run;
-use hailgully_tests::cases;
+use hailgully_tests::book::Reservation;
+use hailgully_tests::cases::{self, Random};
 
 mod arcseconds;
 mod book;
+mod characters;
 mod ends;
 mod long;
 mod own;
@@ -35,6 +37,7 @@ pub fn all(huge: bool) -> Vec<Family> {
         long::families(huge),
         regions::families(),
         ends::families(),
+        characters::families(),
         plane::families(),
         space::families(),
         reference::families(),
@@ -119,6 +122,11 @@ fn each_length(code: &[u8], fills: &[u8], mut ask: impl FnMut(&[u8])) {
             ask(&long[..length]);
         }
     }
+}
+
+/// A book with a free record between two live ones, which name nothing.
+fn with_one_free(random: &mut Random) -> [Reservation; 3] {
+    [1, 0, 2].map(|live| cases::nothing(random, live, live))
 }
 
 /// Reads a code; often also with a character changed, and now and then at another length, 0 to 60.

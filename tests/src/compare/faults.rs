@@ -1,8 +1,9 @@
 //! Faults of a library, made between it and the checks: a length, a place or an edition reaches it cut to 8, 16 or 32 bits, a lent byte comes back
-//! changed, a longitude or latitude is clipped to its range or refused at its upper end, or the book is kept otherwise. Turned on by number like the
-//! oracle's slips, after which they are numbered; each must be found.
+//! changed, a longitude or latitude is clipped to its range or refused at its upper end, the book is kept otherwise, or garbled and misplaced are told
+//! apart otherwise. Turned on by number like the oracle's slips, after which they are numbered; each must be found.
 
 pub mod book;
+pub mod characters;
 
 use hailgully_raw::HgReservation;
 use hailgully_tests::slips;
@@ -68,7 +69,8 @@ const CHANGES: usize = SIZES.len() * CUTS.len();
 const CLIPS: usize = CHANGES + LENT.len();
 const ENDS: usize = CLIPS + POSITIONS.len();
 const BOOKS: usize = ENDS + POSITIONS.len();
-const FAULTS: usize = BOOKS + book::LIST.len();
+const CHARACTERS: usize = BOOKS + book::LIST.len();
+const FAULTS: usize = CHARACTERS + characters::COUNT;
 
 enum Fault {
     Cut(&'static str, u32),
@@ -76,6 +78,8 @@ enum Fault {
     Clipped(&'static str),
     EndRefused(&'static str),
     Book(&'static str),
+    /// What it does, and with which code, if not with all.
+    Character(&'static str, Option<&'static str>),
 }
 
 /// How many slips and faults there are.
@@ -87,6 +91,7 @@ pub fn count() -> u32 {
 fn fault(number: u32) -> Option<Fault> {
     let at = (number as usize).checked_sub(slips::LIST.len() + 1)?;
     Some(match at {
+        CHARACTERS.. => characters::numbered(at - CHARACTERS),
         BOOKS.. => Fault::Book(book::LIST[at - BOOKS]),
         ENDS.. => Fault::EndRefused(POSITIONS[at - ENDS]),
         CLIPS.. => Fault::Clipped(POSITIONS[at - CLIPS]),
@@ -114,6 +119,8 @@ pub fn words(number: u32) -> String {
         Some(Fault::Clipped(position)) => format!("the library clips {position} to its range"),
         Some(Fault::EndRefused(position)) => format!("the library refuses {position} at its upper end"),
         Some(Fault::Book(does)) => format!("the library {does}"),
+        Some(Fault::Character(does, None)) => format!("the library {does}"),
+        Some(Fault::Character(does, Some(code))) => format!("the library {does} {code}"),
     }
 }
 

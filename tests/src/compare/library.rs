@@ -1,6 +1,7 @@
 //! The library's calls on lent slices, and what each should return for the oracle's answer.
 
 use crate::faults::book::{adding, releasing};
+use crate::faults::characters::refused;
 use crate::faults::{change, change_book, cut, cut_edition, reading, units};
 use hailgully_raw::*;
 use hailgully_tests::book::{Kind, Request, Reservation};
@@ -21,7 +22,8 @@ pub fn plane_write(level: i64, east: i64, north: i64, line: &mut [u8], at: usize
 
 pub fn plane_read(code: &mut [u8]) -> HgPlaneCell {
     let length = cut("hg_plane_read length", code.len());
-    let got = unsafe { hg_plane_read(code.as_mut_ptr(), length) };
+    let mut got = unsafe { hg_plane_read(code.as_mut_ptr(), length) };
+    refused("hg_plane_read code", code, &mut got.refusal);
     change("hg_plane_read code", code);
     got
 }
@@ -37,7 +39,8 @@ pub fn space_write(edition: i64, level: i64, east: i64, north: i64, layer: i64, 
 
 pub fn space_read(edition: i64, code: &mut [u8]) -> HgSpaceCell {
     let (edition, length) = (cut_edition("hg_space_read edition", edition), cut("hg_space_read length", code.len()));
-    let got = unsafe { hg_space_read(edition, code.as_mut_ptr(), length) };
+    let mut got = unsafe { hg_space_read(edition, code.as_mut_ptr(), length) };
+    refused("hg_space_read code", code, &mut got.refusal);
     change("hg_space_read code", code);
     got
 }
@@ -47,7 +50,11 @@ pub fn reference_write(base: &mut [u8], target: &mut [u8], line: &mut [u8], at: 
     let target_length = cut("hg_reference_write target_length", target.len());
     let (length, at) = (cut("hg_reference_write length", line.len()), cut("hg_reference_write at", at));
     let (from, to, into) = (base.as_mut_ptr(), target.as_mut_ptr(), line.as_mut_ptr());
-    let got = unsafe { hg_reference_write(from, base_length, to, target_length, into, length, at) };
+    let mut got = unsafe { hg_reference_write(from, base_length, to, target_length, into, length, at) };
+    match got.refusal.ordinal {
+        2 => refused("hg_reference_write target", target, &mut got.refusal),
+        _ => refused("hg_reference_write base", base, &mut got.refusal),
+    }
     change("hg_reference_write base", base);
     change("hg_reference_write target", target);
     change("hg_reference_write line", line);
@@ -57,7 +64,8 @@ pub fn reference_write(base: &mut [u8], target: &mut [u8], line: &mut [u8], at: 
 pub fn reference_read(code: &mut [u8], line: &mut [u8], at: usize) -> HgWritten {
     let code_length = cut("hg_reference_read code_length", code.len());
     let (length, at) = (cut("hg_reference_read length", line.len()), cut("hg_reference_read at", at));
-    let got = unsafe { hg_reference_read(code.as_mut_ptr(), code_length, line.as_mut_ptr(), length, at) };
+    let mut got = unsafe { hg_reference_read(code.as_mut_ptr(), code_length, line.as_mut_ptr(), length, at) };
+    refused("hg_reference_read code", code, &mut got.refusal);
     change("hg_reference_read code", code);
     change("hg_reference_read line", line);
     got
@@ -70,7 +78,8 @@ pub fn arcseconds(east: f64, north: f64) -> HgUnits {
 
 pub fn plane_box(code: &mut [u8]) -> HgBox {
     let length = cut("hg_plane_box length", code.len());
-    let got = unsafe { hg_plane_box(code.as_mut_ptr(), length) };
+    let mut got = unsafe { hg_plane_box(code.as_mut_ptr(), length) };
+    refused("hg_plane_box code", code, &mut got.refusal);
     change("hg_plane_box code", code);
     got
 }
@@ -91,9 +100,10 @@ pub fn book_add(request: &Request, code: &mut [u8], book: &mut [HgReservation]) 
     };
     let (code_length, length) = (cut(names[0], code.len()), cut(names[1], book.len()));
     let from = code.as_mut_ptr();
-    let got = adding(request, book, length, |flight, end, book, length| unsafe {
+    let mut got = adding(request, book, length, |flight, end, book, length| unsafe {
         add(from, code_length, flight, request.start, end, book, length)
     });
+    refused(names[2], code, &mut got.refusal);
     change(names[2], code);
     change_book(names[3], book);
     got

@@ -7,7 +7,7 @@ use hailgully_tests::slips;
 use std::collections::BTreeMap;
 
 /// The most refusals that a call has.
-const KINDS: usize = 8;
+const KINDS: usize = 10;
 
 /// Counts of one call: answers given, refusals by their place in the order, pairs of those places, accepted codes by region and level.
 #[derive(Clone)]

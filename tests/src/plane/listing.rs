@@ -5,6 +5,7 @@
 
 use super::{PlaneCell, Region, DEGREE, LENGTHS, TURN};
 use crate::refusals::{refusal, Refusal};
+use std::collections::BTreeSet;
 use std::sync::OnceLock;
 
 /// A cell with the characters that its own level adds. `west` is taken
@@ -141,6 +142,13 @@ pub fn first_level() -> &'static [Listed] {
     })
 }
 
+/// "Whether a character belongs to no code or is misplaced": whether a code of
+/// level 1 has it somewhere. Finer codes add no other character.
+pub fn belongs(character: u8) -> bool {
+    static SEEN: OnceLock<BTreeSet<u8>> = OnceLock::new();
+    SEEN.get_or_init(|| first_level().iter().flat_map(|cell| cell.text().to_vec()).collect()).contains(&character)
+}
+
 /// All cells that this cell is divided into.
 pub fn children(of: &Listed) -> Vec<Listed> {
     match of.region {
@@ -274,7 +282,10 @@ fn agreeing(list: &[Listed], code: &[u8], place: &mut usize) -> Result<Listed, R
                 return Ok(*found);
             }
             Some(_) => {}
-            None => return Err(Refusal { number: 7, ordinal: 1, place: (*place + seen - 1) as u64 }),
+            None => {
+                let number = if belongs(rest[seen - 1]) { 20 } else { 7 };
+                return Err(Refusal { number, ordinal: 1, place: (*place + seen - 1) as u64 });
+            }
         }
     }
     unreachable!("a listed cell has characters")

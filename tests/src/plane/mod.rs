@@ -4,7 +4,7 @@ pub mod listing;
 pub mod walk;
 pub mod write;
 
-use crate::refusals::{bad_character, put, refusal, Refusal};
+use crate::refusals::{put, refusal, Refusal};
 use crate::slips;
 
 /// "A unit is 1/2048 arc-second; one degree is 7,372,800 units."
@@ -145,15 +145,18 @@ pub fn write(level: i64, longitude: i64, latitude: i64, line: &mut [u8], at: usi
     put(&code[..LENGTHS[level as usize - 1]], line, at)
 }
 
-/// Whole-code reader: refusals 6, 7.
+/// The refusal of the first bad character, whatever the length.
+pub fn bad(code: &[u8]) -> Option<Refusal> {
+    walk::whole(code).err()
+}
+
+/// Whole-code reader: refusals 6, 7 or 20.
 pub fn read(code: &[u8]) -> Result<PlaneCell, Refusal> {
     if level_of(code.len()).is_none() {
-        return Err(refusal(6));
+        let early = if slips::on(slips::MISPLACED_BEFORE_LENGTH) { bad(code) } else { None };
+        return Err(early.filter(|bad| bad.number == 20).unwrap_or(refusal(6)));
     }
-    match walk::whole(code) {
-        Ok(end) => Ok(end.cell()),
-        Err(place) => Err(bad_character(place)),
-    }
+    walk::whole(code).map(walk::Walk::cell)
 }
 
 /// Whether a cell is in a polar region.

@@ -3,6 +3,7 @@
 //! allowed, given those before it.
 
 use super::{west_of, PlaneCell, Region, DEGREE, POLAR_INDEX, TURN};
+use crate::refusals::{take_all, Refusal};
 use crate::slips;
 
 /// A cell (its west edge `start` eastward, its edge on the equator's side
@@ -191,11 +192,8 @@ impl Walk {
     }
 }
 
-/// Walks all these characters: the end, or the place of the first bad one.
-pub fn whole(code: &[u8]) -> Result<Walk, usize> {
-    let mut walk = Walk::start();
-    for (place, &character) in code.iter().enumerate() {
-        walk = walk.take(character).ok_or(place)?;
-    }
-    Ok(walk)
+/// Walks all these characters, whatever their number: the end, or the first bad
+/// one's refusal.
+pub fn whole(code: &[u8]) -> Result<Walk, Refusal> {
+    take_all(code, Walk::start(), |walk, _, character| walk.take(character))
 }

@@ -58,4 +58,4 @@ pub record DigitBelow (n b r : ℕ) : Type 0 where
 -- what reading on from a cell of level 1 answers: the rest of the code w of level l, after its first four characters
 unfoldable pub laterRead : ℕ → Node → List ℕ → Answer Cell
 unfolding planeCodes
-laterRead l n w = answer planeCodes l (shift 4 (follow plane (drop 1 (take l splits)) n (map digitOf (drop 4 w))))
+laterRead l n w = answer planeCodes w l (shift 4 (follow plane (drop 1 (take l splits)) n (map digitOf (drop 4 w))))

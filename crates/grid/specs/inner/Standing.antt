@@ -1,11 +1,12 @@
 -- Where the characters of a code stand: of a plane code, or (where `spaced` is true) of a space code, whose height characters stand between; and what
 -- laying them there leaves in a line. All the places come from the table of splits.
 -- Assumes nothing.
+use mathlib.Core.Path.{_≡_}
 use mathlib.Core.Bool.{Bool, cond}
 use mathlib.Core.List.{List, [], _∷_, map}
-use Prim.Native.Nat.{ℕ, zero, suc, _+_, _-_}
+use Prim.Native.Nat.{ℕ, zero, suc, _+_, _-_, _≤_, _<_}
 use lib.Dec.{ltb, leb, eqb}
-use lib.ListN.{getD, take, set}
+use lib.ListN.{length, getD, take, set}
 use Rattle.grid.specs.declared.Split.{Split}
 use Rattle.grid.specs.Splits.{first, splits, splitAt}
 use Rattle.grid.specs.inner.Roads.{placeOf}
@@ -48,6 +49,13 @@ countFrom k (suc n) = k ∷ countFrom (suc k) n
 -- the plane code of a level among the characters of a code
 abbrev pub planeIn : Bool → ℕ → List ℕ → List ℕ
 planeIn spaced l w = cond spaced (take (splitAt (l - 1) .length) (map (λ p. getD w (planePlace p) 0) (countFrom 0 20))) w
+
+-- the code w is as long as one of its level, and has the plane character p
+pub record HasPlane (spaced : Bool) (level : ℕ) (w : List ℕ) (p : ℕ) : Type 0 where
+  pub some : 1 ≤ level
+  pub most : level ≤ 10
+  pub long : length w ≡ lengthIn spaced level
+  pub character : p < splitAt (level - 1) .length
 
 -- the characters w, from the character k on, each laid down at its place; the first of them first
 abbrev pub spread : (ℕ → ℕ) → ℕ → List ℕ → List ℕ → List ℕ

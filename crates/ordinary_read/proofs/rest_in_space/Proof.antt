@@ -5,7 +5,7 @@ use mathlib.Core.Bool.{true}
 use Prim.Native.Nat.{ℕ}
 use borrow.Author.Needs.{needs}
 use Rattle.ordinary_read.specs.declared.Cursor.{Cursor}
-use Rattle.ordinary_read.proofs.Levels.{At, begins, ready, one-character, two-characters, through, together}
+use Rattle.ordinary_read.proofs.Levels.{At, begins, ready, one-character, two-characters, through, together, stopped-in}
 use Rattle.ordinary_read.proofs.rest_in_space.Statement.{statement}
 use Rattle.ordinary_read.proofs.rest_in_space.Tie as tie
 
@@ -101,7 +101,7 @@ pair-requires-7 : tie.Need-pair-requires-7
 pair-requires-7 c κs = (ready 8 (omega arith) (stage-8 (c .before)) (c .split-of9 .ensures), two-characters 9 (c .split-of9 .ensures) refl refl refl)
 
 answer-requires : tie.Need-answer-requires
-answer-requires c κs g = stage-9 c .reached g .0
+answer-requires c κs = (λ g. stage-9 c .reached g .0, stopped-in (stage-9 c))
 
 returns : tie.Need-returns
 returns c = c .answer .ensures ∙ together (stage-9 (c .before))

@@ -25,9 +25,13 @@ use Rattle.ordinary_read.specs.declared.Cursor.{Cursor}
 abbrev pub ordinaryBox : Cursor → Box
 ordinaryBox c = record { x = c .x; w = c .width; y = c .y; h = c .height }
 
+-- its cell, as the grid has it
+abbrev pub ordinaryNode : Cursor → Node
+ordinaryNode c = cell (ordinary (c .north) (c .east)) (ordinaryBox c)
+
 -- the cell read so far, or the place of the first character that is not allowed
 abbrev pub ordinaryRead : Cursor → Read Node
-ordinaryRead c = cond (c .good) (ok (cell (ordinary (c .north) (c .east)) (ordinaryBox c))) (bad (c .place))
+ordinaryRead c = cond (c .good) (ok (ordinaryNode c)) (bad (c .place))
 
 -- ---- what reading does
 
@@ -46,10 +50,10 @@ ordinaryChild s column row c =
     (guard (s .length - 1) (ltb row (s .rows))
     (ok (cell (ordinary (c .north) (c .east)) (sub (plainPart s) (ordinaryBox c) column row))))
 
--- what a plane reader answers for what was read in a code of level l
-unfoldable pub ordinaryAnswer : ℕ → Read Node → Answer Cell
+-- what a plane reader answers for what was read in the code w of level l
+unfoldable pub ordinaryAnswer : List ℕ → ℕ → Read Node → Answer Cell
 unfolding planeCodes
-ordinaryAnswer l r = answer planeCodes l r
+ordinaryAnswer w l r = answer planeCodes w l r
 
 -- ---- where a good cursor stands
 

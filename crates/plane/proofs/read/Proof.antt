@@ -4,11 +4,13 @@ use mathlib.Core.Bool.{false}
 use mathlib.Core.List.{map}
 use lib.ListN.{length, take}
 use Rattle.grid.specs.Characters.{digitOf}
+use Rattle.grid.specs.Tree.{bad}
 use Rattle.grid.specs.Plane.{globeChild}
 use Rattle.grid.specs.Answers as answers
 use Rattle.plane.specs.inner.Start.{firstRead, Ranged}
+use Rattle.grid.proofs.Standing.{has-inside}
 use Rattle.plane.proofs.Start.{first-digits}
-use Rattle.plane.proofs.Reading.{Leveled, leveled, read-none, read-first, read-rest, length-four}
+use Rattle.plane.proofs.Reading.{Leveled, leveled, read-none, read-rest, length-four, first-has, first-refused}
 use borrow.Author.Needs.{needs}
 use Rattle.plane.proofs.read.Statement.{statement}
 use Rattle.plane.proofs.read.Tie as tie
@@ -56,8 +58,14 @@ rest-requires-2 c κs =
 enum-known-place : tie.Need-enum-known-place
 enum-known-place c = search needs
 
-wrong-character-requires : tie.Need-wrong-character-requires
-wrong-character-requires c κs = search needs
+-- the first bad one of the four
+bad-first : (c : tie.After-place) → bad (c .place .given .0 .0) ≡ globeChild (take 4 (map digitOf (c .before .before .before .before .before .before .args .code .now)))
+bad-first c = ap firstRead (sym (c .place .given .1)) ∙ led (c .before .before)
+
+wrong-in-requires : tie.Need-wrong-in-requires
+wrong-in-requires c κs =
+    let l = known (c .before .before .before .before) in
+    has-inside (first-has false _ (c .before .before .before .before .before .before .before .args .code .now) (l .low) (l .high) (l .long) (bad-first (c .before)))
 
 returns-2 : tie.Need-returns-2
 returns-2 c = read-rest (c .before .before .before .before .before .before .before .before .args .code .now) (known (c .before .before .before .before .before)) (ap firstRead (sym (c .before .before .north .given .1)) ∙ led (c .before .before .before .before)) (c .rest .ensures)
@@ -67,9 +75,8 @@ returns-3 c = read-rest (c .before .before .before .before .before .before .befo
 
 returns-4 : tie.Need-returns-4
 returns-4 c =
-    ap answers.refused (c .wrong-character .ensures)
-    ∙ read-first (c .before .before .before .before .before .before .before .before .args .code .now) (known (c .before .before .before .before .before))
-    (ap firstRead (sym (c .before .before .place .given .1)) ∙ led (c .before .before .before .before))
+    let l = known (c .before .before .before .before .before) in
+    first-refused false _ (c .before .before .before .before .before .before .before .before .args .code .now) (l .low) (l .high) (l .long) (bad-first (c .before .before)) (c .wrong-in .ensures)
 
 pub read-spec : {M : Type 1} → statement M
 read-spec =
@@ -84,7 +91,7 @@ read-spec =
     enum-known-north-2
     rest-requires-2
     enum-known-place
-    wrong-character-requires
+    wrong-in-requires
     returns-2
     returns-3
     returns-4)

@@ -7,12 +7,12 @@ use native.Mathlib.Omega.{arith}
 use lib.ListN.{length, take}
 use Rattle.grid.specs.Characters.{digitOf}
 use Rattle.grid.specs.Plane.{globeChild}
-use Rattle.grid.specs.Answers as answers
+use Rattle.grid.specs.Tree.{bad}
 use Rattle.grid.specs.inner.Standing.{planeIn}
-use Rattle.grid.proofs.Standing.{plane-long}
+use Rattle.grid.proofs.Standing.{plane-long, has-inside}
 use Rattle.plane.specs.inner.Start.{firstRead, Ranged}
 use Rattle.plane.proofs.Start.{first-digits}
-use Rattle.plane.proofs.Reading.{Leveled, leveled-at, read-first, read-rest, four-in}
+use Rattle.plane.proofs.Reading.{Leveled, leveled-at, read-rest, four-in, first-has, first-refused}
 use borrow.Author.Needs.{needs}
 use Rattle.plane.proofs.read_in_space.Statement.{statement}
 use Rattle.plane.proofs.read_in_space.Tie as tie
@@ -53,8 +53,14 @@ rest-in-space-requires-2 c κs = search needs
 enum-known-place : tie.Need-enum-known-place
 enum-known-place c = search needs
 
-wrong-character-requires : tie.Need-wrong-character-requires
-wrong-character-requires c κs = search needs
+-- the first bad one of the four
+bad-first : (c : tie.After-place) → bad (c .place .given .0 .0) ≡ globeChild (take 4 (map digitOf (flat (c .before .before .before .before))))
+bad-first c = ap firstRead (sym (c .place .given .1)) ∙ led (c .before .before)
+
+wrong-in-requires : tie.Need-wrong-in-requires
+wrong-in-requires c κs =
+    let s = c .before .before .before .before .before in
+    has-inside (first-has true (s .args .level) (s .args .code .now) (s .pre .some) (s .pre .most) (s .pre .long) (bad-first (c .before)))
 
 returns : tie.Need-returns
 returns c =
@@ -69,7 +75,7 @@ returns-2 c =
 returns-3 : tie.Need-returns-3
 returns-3 c =
     let s = c .before .before .before .before .before .before in
-    ap answers.refused (c .wrong-character .ensures) ∙ read-first (flat s) (known s) (ap firstRead (sym (c .before .before .place .given .1)) ∙ led (c .before .before .before .before))
+    first-refused true (s .args .level) (s .args .code .now) (s .pre .some) (s .pre .most) (s .pre .long) (bad-first (c .before .before)) (c .wrong-in .ensures)
 
 pub read-in-space-spec : {M : Type 1} → statement M
 read-in-space-spec =
@@ -81,7 +87,7 @@ read-in-space-spec =
     enum-known-north-2
     rest-in-space-requires-2
     enum-known-place
-    wrong-character-requires
+    wrong-in-requires
     returns
     returns-2
     returns-3)

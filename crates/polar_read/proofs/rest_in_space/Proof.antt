@@ -2,7 +2,7 @@
 use mathlib.Core.Path.{refl, _∙_, ap}
 use Rattle.polar_read.specs.declared.Cursor.{Cursor}
 use Rattle.polar_read.proofs.Sixteen.{has-second, level-two}
-use Rattle.polar_read.proofs.Levels.{ready, start-whole, start-answers, last-whole, answers}
+use Rattle.polar_read.proofs.Levels.{ready, start-whole, start-asks, start-answers, last-asks, answers}
 use borrow.Author.Needs.{needs}
 use Rattle.polar_read.proofs.rest_in_space.Statement.{statement}
 use Rattle.polar_read.proofs.rest_in_space.Tie as tie
@@ -11,7 +11,7 @@ start-requires : tie.Need-start-requires
 start-requires c κs = search needs
 
 answer-requires : tie.Need-answer-requires
-answer-requires c κs = λ g. start-whole (c .before .start .ensures)
+answer-requires c κs = start-asks (c .before .start .ensures)
 
 returns : tie.Need-returns
 returns c = start-answers (c .before .before .start .ensures) _ (c .before .if1 .taken) (c .answer .ensures)
@@ -71,7 +71,7 @@ pair-requires-6 : tie.Need-pair-requires-6
 pair-requires-6 c κs = ready 9 refl (c .before .before .before .before .before .before .before .before .before .before .before .before .before .before .before .before .before .before .before .before .pre) (c .split-of8 .ensures) (c .before .pair5 .ensures .0)
 
 answer-requires-2 : tie.Need-answer-requires-2
-answer-requires-2 c κs = λ g. last-whole (c .before .before .before .before .before .before .before .before .before .before .before .before .before .before .before .before .before .before .before .before .before .pre) (c .pair6 .ensures .0) g
+answer-requires-2 c κs = last-asks (c .before .before .before .before .before .before .before .before .before .before .before .before .before .before .before .before .before .before .before .before .before .pre) (c .pair6 .ensures .0)
 
 returns-2 : tie.Need-returns-2
 returns-2 c =

@@ -11,7 +11,8 @@ use Rattle.grid.specs.declared.Cell.{Cell}
 use Rattle.grid.specs.Units.{TURN}
 use Rattle.grid.specs.Characters.{digitOf}
 use Rattle.grid.specs.Tree.{Read, ok, bad, guard, shift, follow}
-use Rattle.grid.specs.Answers.{Answer, accepted, refused, wrongCharacter}
+use Rattle.grid.specs.Answers.{Answer}
+use Rattle.grid.specs.Codes.{answer}
 use Rattle.grid.specs.Splits.{first, second, splits, splitAt}
 use Rattle.grid.specs.Plane.{
   Frame,
@@ -34,7 +35,7 @@ use Rattle.grid.specs.Plane.{
   polarNode,
   childOf,
   plane,
-  cellAt,
+  planeCodes,
 }
 use Rattle.grid.specs.inner.Standing.{levelPlace}
 use Rattle.polar_read.specs.declared.Cursor.{Cursor}
@@ -148,7 +149,7 @@ soFar n l w = shift 4 (follow plane (drop 1 (take l splits)) (pole n) (map digit
 abbrev pub PolarReached : ℕ → List ℕ → Cursor → Type 0
 PolarReached l w c = HasRead (c .north) (splitAt (l - 1) .length) (soFar (c .north) l w) c
 
--- what a reader of level l answers
-abbrev pub polarAnswer : ℕ → Read Node → Answer Cell
-polarAnswer l (ok n) = accepted (cellAt l n)
-polarAnswer l (bad p) = refused (wrongCharacter p)
+-- what a reader of the code w of level l answers
+unfoldable pub polarAnswer : List ℕ → ℕ → Read Node → Answer Cell
+unfolding planeCodes
+polarAnswer w l r = answer planeCodes w l r

@@ -1,6 +1,7 @@
 -- `space::height_of` meets its contract. Assumes nothing.
 use mathlib.Core.Path.{_≡_, sym, _∙_, ap}
 use mathlib.Core.List.{map}
+use Prim.Native.Nat.{_+_, _<_}
 use native.Mathlib.Omega.{arith}
 use mir.Syntax.{w32}
 use mir.Facts.{toZ-ofZ}
@@ -11,7 +12,7 @@ use Rattle.layers.specs.inner.Editions.{radicesOf}
 use Rattle.layers.specs.inner.Steps.{standing}
 use Rattle.layers.specs.Heights.{heightRead, layersRead}
 use Rattle.space.specs.inner.Parts.{heightsIn}
-use Rattle.space.proofs.Reading.{lying, height-few}
+use Rattle.space.proofs.Reading.{lying, height-few, height-stands}
 use borrow.Author.Needs.{needs}
 use Rattle.space.proofs.height_of.Statement.{statement}
 use Rattle.space.proofs.height_of.Tie as tie
@@ -35,23 +36,31 @@ floor-requires c κs =
 enum-known-p : tie.Need-enum-known-p
 enum-known-p c = search needs
 
-height-place-requires : tie.Need-height-place-requires
-height-place-requires c κs =
-    let r = c .before .before .before in
+-- the bad character is one of the level's
+few : (c : tie.After-p) → c .p .given .0 .0 < 2 + c .before .before .before .before .args .level
+few c =
+    let r = c .before .before in
     let s = r .before .before in
-    omega (arith, height-few (s .args .second) (s .args .level) (s .args .code .now) (s .pre .some) (s .pre .most) (answered r (c .before .p .given .1)), s .pre .most)
+    height-few (s .args .second) (s .args .level) (s .args .code .now) (s .pre .some) (s .pre .most) (answered r (c .p .given .1))
+
+height-place-requires : tie.Need-height-place-requires
+height-place-requires c κs = omega (arith, few (c .before), c .before .before .before .before .before .pre .most)
 
 returns : tie.Need-returns
 returns c =
     let r = c .before .before .before .before in
-    let top = product (radicesOf (r .before .before .args .second)) in
-    rw (toZ-ofZ {w = w32} {z = c .floor .result} (record { sfits = c .floor .ok }), c .floor .ensures (c .before .before .above .given .0 .1 .1 .0))
-    (ap (heightsIn top) (answered r (c .before .before .above .given .1)))
+    let top = product (radicesOf (r .before .before .args .second)) in (
+      rw (toZ-ofZ {w = w32} {z = c .floor .result} (record { sfits = c .floor .ok }), c .floor .ensures (c .before .before .above .given .0 .1 .1 .0))
+          (ap (heightsIn top) (answered r (c .before .before .above .given .1))),
+      tt,
+    )
 
 returns-2 : tie.Need-returns-2
 returns-2 c =
     let r = c .before .before .before .before in
-    rw (c .height-place .ensures) (ap (heightsIn (product (radicesOf (r .before .before .args .second)))) (answered r (c .before .before .p .given .1)))
+    let s = r .before .before in
+    rw (c .height-place .ensures)
+    (ap (heightsIn (product (radicesOf (s .args .second)))) (answered r (c .before .before .p .given .1)), height-stands (s .pre) (few (c .before .before)))
 
 pub height-of-spec : {M : Type 1} → statement M
 height-of-spec =

@@ -4,6 +4,9 @@ use borrow.Author.Needs.{needs}
 use Rattle.space.proofs.over_bad.Statement.{statement}
 use Rattle.space.proofs.over_bad.Tie as tie
 
+shared-slice-read-wrong-character : tie.Need-shared-slice-read-wrong-character
+shared-slice-read-wrong-character c = c .before .before .pre
+
 wrong-character-requires : tie.Need-wrong-character-requires
 wrong-character-requires c κs = search needs
 
@@ -39,6 +42,7 @@ pub over-bad-spec : {M : Type 1} → statement M
 over-bad-spec =
     tie.close
     (tie.spec
+    shared-slice-read-wrong-character
     wrong-character-requires
     enum-known-a
     enum-known-a-2

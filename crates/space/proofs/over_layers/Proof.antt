@@ -18,10 +18,10 @@ at-place-requires : tie.Need-at-place-requires
 at-place-requires c κs = search needs
 
 returns : tie.Need-returns
-returns c = rw (c .before .a .given .1, toZ-ofZ (c .before .before .before .fits .floor)) refl
+returns c w = rw (c .before .a .given .1, toZ-ofZ (c .before .before .before .fits .floor)) refl
 
 returns-2 : tie.Need-returns-2
-returns-2 c = rw (c .at-place .ensures, c .before .plane-place .ensures, c .before .before .before .a2 .given .1) refl
+returns-2 c w = rw (c .at-place .ensures, c .before .plane-place .ensures, c .before .before .before .a2 .given .1) refl
 
 pub over-layers-spec : {M : Type 1} → statement M
 over-layers-spec =

@@ -27,12 +27,12 @@ read-in-space-requires : tie.Need-read-in-space-requires
 read-in-space-requires c κs = spaced (known (c .before))
 
 joined-requires : tie.Need-joined-requires
-joined-requires c κs = search needs
+joined-requires c κs = c .before .height-of .ensures .1
 
 returns-2 : tie.Need-returns-2
 returns-2 c =
     let s = c .before .before .before .before .before .before in
-    read-joined (s .args .second) (s .args .code .now) (c .before .before .before .before .level-of .result) (known (c .before .before .before)) (c .joined .ensures) (c .before .read-in-space .ensures) (c .before .before .height-of .ensures)
+    read-joined (s .args .second) (s .args .code .now) (c .before .before .before .before .level-of .result) (known (c .before .before .before)) (c .joined .ensures) (c .before .read-in-space .ensures) (c .before .before .height-of .ensures .0)
 
 pub read-in-spec : {M : Type 1} → statement M
 read-in-spec =

@@ -2,7 +2,7 @@
 -- Assumes nothing.
 use mathlib.Core.Bool.{true, false, cond}
 use mathlib.Core.List.{List, [], _∷_}
-use Prim.Native.Nat.{ℕ}
+use Prim.Native.Nat.{ℕ, _<_}
 use lib.Dec.{ltb}
 use lib.IntN.{ℤ}
 use Rattle.grid.specs.declared.Refusal.{Refusal}
@@ -12,7 +12,7 @@ use Rattle.grid.specs.declared.Cell.{Cell}
 use Rattle.grid.specs.Splits.{splits}
 use Rattle.grid.specs.Codes.{placeIn}
 use Rattle.grid.specs.Tree.{Read, ok, bad}
-use Rattle.grid.specs.Answers.{Answer, accepted, refused, wrongCharacter}
+use Rattle.grid.specs.Answers.{Answer, accepted, refused, wrongAt}
 use Rattle.grid.specs.inner.Roads.{atPlace}
 use Rattle.grid.specs.inner.Standing.{planePlace, heightPlace}
 use Rattle.grid.specs.Layers.{Stack, floorOf, thicknessOf}
@@ -58,9 +58,14 @@ abbrev pub heightsRead : Heights → Read (ℤ × ℕ)
 heightsRead (heights.Found floor thick) = ok (floor, thick)
 heightsRead (heights.Bad p) = bad p
 
--- what the plane reader answers and the height reader finds, together: the cell with its layers, or the first bad character of either
-abbrev pub joinedAnswer : Answer Cell → Read (ℤ × ℕ) → Answer SpaceCell
-joinedAnswer (accepted c) (ok h) = accepted (record { cell = c; floor = h .0; thickness = h .1 })
-joinedAnswer (accepted c) (bad p) = refused (wrongCharacter p)
-joinedAnswer (refused r) (ok h) = refused (ofPlane r)
-joinedAnswer (refused r) (bad p) = refused (earlier (ofPlane r) (wrongCharacter p))
+-- a bad character's place lies in a code of n characters
+abbrev pub BadWithin : ℕ → Heights → Type 0
+BadWithin n (heights.Found floor thick) = Unit {0}
+BadWithin n (heights.Bad p) = p < n
+
+-- what the plane reader answers and the height reader finds in the space code w, together: the cell with its layers, or the first bad character of either
+abbrev pub joinedAnswer : List ℕ → Answer Cell → Read (ℤ × ℕ) → Answer SpaceCell
+joinedAnswer w (accepted c) (ok h) = accepted (record { cell = c; floor = h .0; thickness = h .1 })
+joinedAnswer w (accepted c) (bad p) = refused (wrongAt w p)
+joinedAnswer w (refused r) (ok h) = refused (ofPlane r)
+joinedAnswer w (refused r) (bad p) = refused (earlier (ofPlane r) (wrongAt w p))

@@ -1,6 +1,6 @@
 //! Cases of the arc-second readings and of the box.
 
-use super::{each_change, each_length, fixed, part, random, read_about, Family};
+use super::{each_length, fixed, part, random, read_about, Family};
 use crate::checks::Run;
 use hailgully_tests::cases;
 use hailgully_tests::plane::{write::finest, LENGTHS};
@@ -9,7 +9,6 @@ pub fn families() -> Vec<Family> {
     vec![
         fixed("arcseconds: odd readings by odd readings", 16, odd),
         fixed("arcseconds: all powers of two", 16, powers),
-        fixed("box: every one-character change", 20, changes),
         fixed("box: lengths 0 to 60", 16, lengths),
         random("arcseconds: random readings", 4, readings),
         random("box: random codes, read back", 3, boxes),
@@ -39,13 +38,6 @@ fn powers(run: &mut Run, piece: u64) {
                 }
             }
         }
-    }
-}
-
-fn changes(run: &mut Run, piece: u64) {
-    let length = LENGTHS[piece as usize % 10];
-    for (longitude, latitude) in part(&cases::places_of_each_kind(), piece / 10, 4) {
-        each_change(&finest(longitude, latitude)[..length], |code| run.plane_box(code));
     }
 }
 

@@ -2,7 +2,7 @@
 
 mod sequences;
 
-use super::{each_change, each_length, fixed, part, random, Family};
+use super::{each_length, fixed, random, with_one_free, Family};
 use crate::checks::Run;
 use hailgully_tests::book::{Kind, Request, Reservation, MOST};
 use hailgully_tests::cases::{self, About, Coded, Random, MARKS, MINUTES};
@@ -13,7 +13,6 @@ pub fn families() -> Vec<Family> {
         fixed("book: records about a cell, axis by axis", 24, axes),
         fixed("book: lengths, free records and what they hide", 16, lengths),
         fixed("book: live marks and flight numbers", 16, marks),
-        fixed("book: every one-character change", 20, changes),
         fixed("book: codes of lengths 0 to 60", 16, code_lengths),
         random("book: random single calls", 3, singles),
         random("book: sequences from nothing live", 3, sequences::from_nothing_live),
@@ -86,14 +85,15 @@ fn lengths(run: &mut Run, piece: u64) {
     }
 }
 
-/// The request, the request with each thing that is refused, and releases.
+/// The request, the request with each thing that is refused, and releases. Of the bad characters x is garbled, and V misplaced.
 fn on_each_side(run: &mut Run, request: &Request, book: &[Reservation]) {
     let last = book.len().saturating_sub(1) as u32;
     let mut bad = request.code.to_vec();
-    bad[2] = b'x';
-    let (short, bad_short) = (&request.code[..request.code.len() - 1], &bad[..bad.len() - 1]);
+    let short = &request.code[..request.code.len() - 1];
     let (start, end) = (request.start, request.end);
-    for flight in [request.flight, 0, last] {
+    for (flight, character) in [(request.flight, b'x'), (0, b'x'), (last, b'V')] {
+        bad[2] = character;
+        let bad_short = &bad[..bad.len() - 1];
         for code in [request.code, &bad, short, bad_short] {
             run.book_add_once(&Request { code, flight, ..*request }, book);
             run.book_add_once(&Request { code, flight, start: end, end: start, ..*request }, book);
@@ -126,21 +126,6 @@ fn marks(run: &mut Run, piece: u64) {
                 }
             }
         }
-    }
-}
-
-/// A book with a free record between two live ones.
-fn with_one_free(random: &mut Random) -> [Reservation; 3] {
-    [1, 0, 2].map(|live| cases::nothing(random, live, live))
-}
-
-/// Each piece a level of either kind.
-fn changes(run: &mut Run, piece: u64) {
-    let (kind, level) = (Kind::BOTH[piece as usize / 10], 1 + piece as usize % 10);
-    for square in part(&squares(), piece % 4, 4) {
-        let code = cases::coded(kind, level, square, -1);
-        let book = with_one_free(&mut run.random);
-        each_change(&code.1, |code| run.book_add_once(&Request { kind, code, flight: 5, start: 0, end: 9 }, &book));
     }
 }
 

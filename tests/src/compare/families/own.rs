@@ -109,6 +109,12 @@ fn spaces(run: &mut Run, edition: Edition) {
     let well =
         read.is_ok_and(|read| read.plane == cell && i64::from(read.floor) == high.floor && i64::from(read.thickness) == high.thickness);
     own(run, well, || format!("{}: {read:?}", show(&code)));
+    // Of a bad character: misplaced, if the lists have it somewhere.
+    cases::damage(&mut run.random, &mut code);
+    if let Err(bad) = space::read(edition as i64, &code) {
+        let listed = if listing::belongs(code[bad.place as usize]) { 20 } else { 7 };
+        own(run, bad.number == listed, || format!("{}: {bad:?}, by the lists {listed}", show(&code)));
+    }
 }
 
 /// A reference read, done by walking cell by cell: from a square over the

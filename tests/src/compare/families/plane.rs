@@ -1,9 +1,9 @@
 //! Cases of the plane writer and the plane reader.
 
-use super::{each_change, each_length, each_room, each_two, fit, fixed, part, random, read_about, Family};
+use super::{each_length, each_room, each_two, fit, fixed, part, random, read_about, Family};
 use crate::checks::Run;
 use hailgully_tests::cases::{self, Random};
-use hailgully_tests::plane::{write::finest, LATITUDE, LENGTHS, LONGITUDE, SOUTH};
+use hailgully_tests::plane::{write::finest, LATITUDE, LENGTHS, LONGITUDE};
 
 pub fn families() -> Vec<Family> {
     vec![
@@ -12,7 +12,6 @@ pub fn families() -> Vec<Family> {
         fixed("plane: lines and places around the fit", 10, lines),
         fixed("plane: extreme numbers", 16, numbers),
         fixed("plane: all level 1 texts", 36, level_1_texts),
-        fixed("plane: every one-character change", 64, changes),
         fixed("plane: every two-character step", 56, two_characters),
         fixed("plane: lengths 0 to 60", 16, lengths),
         random("plane: random ordinary squares", 4, |run| square(run, cases::ordinary)),
@@ -82,19 +81,6 @@ fn level_1_texts(run: &mut Run, piece: u64) {
                 run.plane_read(&[first, *tens, *ones, last]);
             }
         }
-    }
-}
-
-/// Each piece changes a third of the codes, at one level.
-fn changes(run: &mut Run, piece: u64) {
-    let mut squares = cases::places_of_each_kind();
-    for _ in 0..3 {
-        squares.push((cases::random_longitude(&mut run.random), run.random.between(SOUTH.0, SOUTH.1)));
-        squares.push(cases::polar(&mut run.random));
-    }
-    let length = LENGTHS[piece as usize % 10];
-    for (longitude, latitude) in part(&squares, piece % 3, 3) {
-        each_change(&finest(longitude, latitude)[..length], |code| run.plane_read(code));
     }
 }
 

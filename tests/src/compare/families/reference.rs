@@ -1,6 +1,6 @@
 //! Cases of the reference writer and the reference reader.
 
-use super::{each_change, each_length, each_room, fit, fixed, part, random, read_about, Family};
+use super::{each_length, each_room, fit, fixed, part, random, read_about, Family};
 use crate::checks::Run;
 use hailgully_tests::cases;
 use hailgully_tests::plane::{wrap, write::finest, DEGREE, LENGTHS, POLAR_INDEX, SOUTH};
@@ -11,7 +11,6 @@ pub fn families() -> Vec<Family> {
         fixed("reference: the document's cases", 1, document),
         fixed("reference: all offsets -8 to 8 at edges", 48, offsets),
         fixed("reference: lines and places around the fit", 12, lines),
-        fixed("reference: every one-character change", 40, changes),
         fixed("reference: every hyphen, M and N", 12, signs),
         fixed("reference: lengths 0 to 60", 16, lengths),
         random("reference: random offsets", 4, near),
@@ -94,19 +93,6 @@ fn lines(run: &mut Run, piece: u64) {
     for north in [b'3', b'B'] {
         let (code, whole) = with_offset(&base[..length], b'-', b'C', north);
         each_room(40, |line, at| run.reference_read(&code[..whole], line, at));
-    }
-}
-
-fn changes(run: &mut Run, piece: u64) {
-    let length = LENGTHS[piece as usize % 10];
-    for (longitude, latitude) in part(&cases::places_of_each_kind(), piece / 10, 4) {
-        let base = &finest(longitude, latitude)[..length];
-        let (code, whole) = with_offset(base, b'-', b'2', b'F');
-        each_change(&code[..whole], |code| run.reference_read(code, 24, 0));
-        each_change(base, |changed| {
-            run.reference_write(changed, base, 24, 0);
-            run.reference_write(base, changed, 24, 0);
-        });
     }
 }
 

@@ -1,6 +1,6 @@
 //! Cases of the space writer and the space reader, in both editions and in none.
 
-use super::{each_change, each_length, each_room, each_two, fit, fixed, part, random, read_about, Family};
+use super::{each_length, each_room, each_two, fit, fixed, part, random, read_about, Family};
 use crate::checks::Run;
 use hailgully_tests::cases::{self, outside, Random, ODD_EDITIONS};
 use hailgully_tests::plane::{LATITUDE, LONGITUDE};
@@ -13,11 +13,9 @@ pub fn families() -> Vec<Family> {
         fixed("space: lines and places around the fit", 10, lines),
         fixed("space: extreme numbers", 32, numbers),
         fixed("space: editions and what they hide", 16, editions),
-        fixed("space: every one-character change", 80, changes),
         fixed("space: every F place", 16, letter_f),
         fixed("space: every two-character step", 48, two_characters),
         fixed("space: every two-character step of edition 2", 12, two_characters_2),
-        fixed("space: two bad characters, every pair of places", 16, two_bad),
         fixed("space: lengths 0 to 60", 16, lengths),
         random("space: random ordinary squares", 3, |run| square(run, cases::ordinary)),
         random("space: random polar squares", 3, |run| square(run, cases::polar)),
@@ -124,23 +122,6 @@ fn editions(run: &mut Run, piece: u64) {
     }
 }
 
-/// Half of the pieces for each edition.
-fn changes(run: &mut Run, piece: u64) {
-    let (edition, piece) = (Edition::BOTH[piece as usize / 40], piece % 40);
-    let mut codes = Vec::new();
-    for (at, position) in cases::places_of_each_kind().into_iter().enumerate() {
-        codes.push(finest(edition, position, [63, -1, 1_800_000_000][at % 3]));
-    }
-    for _ in 0..4 {
-        let position = cases::near_edge(&mut run.random);
-        codes.push(finest(edition, position, cases::layer(&mut run.random, edition)));
-    }
-    let length = LENGTHS[piece as usize % 10];
-    for code in part(&codes, piece / 10, 4) {
-        each_change(&code[..length], |code| run.space_read(edition as i64, code));
-    }
-}
-
 /// Layers with F at level 4, at level 5, at both and at neither, above and below ground: written at every level, and read in both editions at levels
 /// 4, 5 and 10 as they are and with every other character at either place.
 fn letter_f(run: &mut Run, piece: u64) {
@@ -178,24 +159,6 @@ fn two_characters_2(run: &mut Run, piece: u64) {
     let position = cases::places_of_each_kind()[4 * kind + at];
     let code = finest(Edition::Theirs, position, -999_999_999);
     each_two(&code[..LENGTHS[level - 1]], place, |code| run.space_read(2, code));
-}
-
-/// The plane's and the height's, in either order: the first decides.
-fn two_bad(run: &mut Run, piece: u64) {
-    let position = cases::places_of_each_kind()[piece as usize];
-    for edition in Edition::BOTH {
-        let good = finest(edition, position, -999_999_999);
-        for length in LENGTHS {
-            for first in 0..length {
-                for second in first + 1..length {
-                    let mut code = good;
-                    code[first] = b'Z';
-                    code[second] = b'?';
-                    run.space_read(edition as i64, &code[..length]);
-                }
-            }
-        }
-    }
 }
 
 fn lengths(run: &mut Run, piece: u64) {
