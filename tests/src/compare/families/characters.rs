@@ -5,15 +5,15 @@ use super::{each_change, fixed, with_one_free, Family};
 use crate::checks::{Books, Run};
 use hailgully_tests::book::{Kind, Request};
 use hailgully_tests::cases;
-use hailgully_tests::plane::{write::finest, LENGTHS};
+use hailgully_tests::plane::{write::finest, LENGTHS, SOUTH};
 use hailgully_tests::space::{self, Edition};
 
 pub fn families() -> Vec<Family> {
-    let (squares, readers) = (SQUARES.len() as u64, READERS.len() as u64);
+    let readers = READERS.len() as u64;
     vec![
-        fixed("characters: every byte at every place, every reader", squares * readers, every_byte),
-        fixed("characters: two bad ones, every pair of places, every reader", squares * readers, two_bad),
-        fixed("characters: bad ones in base and target", squares, in_both),
+        fixed("characters: every byte at every place, every reader", SQUARES * readers, every_byte),
+        fixed("characters: two bad ones, every pair of places, every reader", SQUARES * readers, two_bad),
+        fixed("characters: bad ones in base and target", SQUARES, in_both),
     ]
 }
 
@@ -36,7 +36,18 @@ const READERS: [Reader; 9] =
 
 /// Of the places of each kind: an ordinary square, a belt cell, a disc cell, a ring around a cap, and the pole itself, each in the north and in the
 /// south.
-const SQUARES: [usize; 10] = [0, 1, 4, 7, 8, 9, 12, 11, 14, 15];
+const KINDS: [usize; 10] = [0, 1, 4, 7, 8, 9, 12, 11, 14, 15];
+
+/// These, and two that the seed picks.
+const SQUARES: u64 = 12;
+
+fn position(run: &mut Run, square: usize) -> (i64, i64) {
+    match KINDS.get(square) {
+        Some(&kind) => cases::places_of_each_kind()[kind],
+        None if square == 10 => (cases::random_longitude(&mut run.random), run.random.between(SOUTH.0, SOUTH.1)),
+        None => cases::polar(&mut run.random),
+    }
+}
 
 impl Reader {
     fn tall(self) -> bool {
@@ -45,8 +56,8 @@ impl Reader {
 
     /// The codes of a square at all levels; a reference code has its hyphen, M and N. Heights begin with 63, after which no more is allowed, or
     /// with 0 and a digit that is not allowed after 6, or otherwise.
-    fn codes(self, square: usize) -> Vec<Vec<u8>> {
-        let (longitude, latitude) = cases::places_of_each_kind()[SQUARES[square]];
+    fn codes(self, run: &mut Run, square: usize) -> Vec<Vec<u8>> {
+        let (longitude, latitude) = position(run, square);
         let layer = [-1, 230_000_000, -999_999_999][square % 3];
         let edition = if self == Space(Edition::Theirs) { Edition::Theirs } else { Edition::Ours };
         let (flat, tall) = (finest(longitude, latitude), space::finest(edition, (longitude, latitude), layer));
@@ -91,7 +102,7 @@ fn of_piece(run: &mut Run, piece: u64) -> (usize, Reader, Books) {
 
 fn every_byte(run: &mut Run, piece: u64) {
     let (square, reader, mut books) = of_piece(run, piece);
-    for good in reader.codes(square) {
+    for good in reader.codes(run, square) {
         each_change(&good, |code| reader.ask(run, code, &good, &mut books));
     }
 }
@@ -99,7 +110,7 @@ fn every_byte(run: &mut Run, piece: u64) {
 /// Of the longest code, and of one of another level.
 fn two_bad(run: &mut Run, piece: u64) {
     let (square, reader, mut books) = of_piece(run, piece);
-    let codes = reader.codes(square);
+    let codes = reader.codes(run, square);
     for good in [&codes[9], &codes[square % 9]] {
         for second in 0..good.len() {
             for first in 0..second {
@@ -115,8 +126,8 @@ fn two_bad(run: &mut Run, piece: u64) {
 
 /// Of the longest base, and of one of another level.
 fn in_both(run: &mut Run, piece: u64) {
-    let codes = Base.codes(piece as usize);
-    let target = &codes[9 - piece as usize];
+    let codes = Base.codes(run, piece as usize);
+    let target = &codes[9 - piece as usize % 10];
     for base in [&codes[9], &codes[piece as usize % 9]] {
         for first in 0..base.len() {
             for second in 0..target.len() {
