@@ -137,6 +137,43 @@ static void ask_mixed(input *i) { ask(i, SOMETHING, plane_code, add_plane); }
 static void ask_mixed_space(input *i) { ask(i, SOMETHING, space_code, add_space); }
 static void ask_release(input *i) { ask_mixed(i), book[LAST] = record(LAST, SOMETHING); }
 
+/* ---- the place book: masts with codes of levels 5 to 10, whose names rise with their numbers; a row's inputs are short codes by names of it */
+
+enum { NAME = 9, TEN = 10, BODY = NAME + HG_PLANE_MOST };
+
+static uint8_t places[2 + (4 + BODY) * HG_PLACES_MOST];
+static size_t places_length;
+
+static void mast(uint8_t *name, int64_t number) {
+    need(snprintf((char *)name, NAME + 1, "mast %04d", (int)number) == NAME, "a name");
+}
+
+static void make_places(size_t count) {
+    size_t end = 2 + 4 * count;
+    places[0] = (uint8_t)(count / 256), places[1] = (uint8_t)(count % 256);
+    for (size_t n = 0; n < count; n++) {
+        input i;
+        place(&i, between(5, 10), 0), plane_code(&i);
+        memcpy(places + 2 + 4 * n, (uint8_t[]){(uint8_t)(end / 256), (uint8_t)(end % 256), NAME, (uint8_t)i.length}, 4);
+        mast(places + end, (int64_t)(9 * n) + between(0, 8));
+        memcpy(places + end + NAME, i.code, i.length);
+        end += NAME + i.length;
+    }
+    places_length = end;
+}
+
+/* the book, with a row's first input, and a short code */
+static void short_code(input *i, size_t count) {
+    if (i == inputs) make_places(count);
+    const uint8_t *entry = places + 2 + 4 * (dice() % count);
+    memcpy(i->code, places + 256 * entry[0] + entry[1], NAME);
+    memcpy(i->code + NAME, (uint8_t[]){'-', "01234567ABCDEFG"[dice() % 15], "01234567ABCDEFG"[dice() % 15]}, 3);
+    i->length = NAME + 3;
+}
+
+static void short_1000(input *i) { short_code(i, HG_PLACES_MOST); }
+static void short_10(input *i) { short_code(i, TEN); }
+
 /* ---- calls; each notes where the stack stands before it */
 
 static char *before;
@@ -185,6 +222,22 @@ static void book_release(input *i) {
     book[LAST].live = 1;
 }
 
+static void place_find(input *i) {
+    NOTE();
+    seen += hg_place_find(i->code, i->length - 3, places, places_length).number;
+}
+
+static void place_part(input *i) {
+    NOTE();
+    seen += hg_place_part(i->code, i->length - 3, places, places_length).refusal.number;
+}
+
+static void short_read(input *i) {
+    uint8_t line[40];
+    NOTE();
+    seen += hg_short_read(i->code, i->length, places, places_length, line, sizeof line, 0).refusal.number;
+}
+
 static const struct {
     const char *name;
     void (*make)(input *);
@@ -220,6 +273,11 @@ static const struct {
     {"book add, mixed", ask_mixed, book_add_plane, SOME},
     {"book add, space code, mixed", ask_mixed_space, book_add_space, SOME},
     {"book release, the last", ask_release, book_release, SOME},
+    {"place find, 1000 names", short_1000, place_find, SOME},
+    {"place find, 10 names", short_10, place_find, SOME},
+    {"place part, 10 names", short_10, place_part, SOME},
+    {"short read, 1000 names", short_1000, short_read, SOME},
+    {"short read, 10 names", short_10, short_read, SOME},
 };
 enum { ROWS = sizeof rows / sizeof rows[0] };
 

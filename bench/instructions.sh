@@ -8,7 +8,6 @@ here=$(cd "$(dirname "$0")" && pwd)
 [ "$(uname -m)" = x86_64 ] || { echo "instructions.sh: callgrind counts x86-64 programs on x86-64 machines only" >&2; exit 1; }
 tab=$(printf '\t')
 passes=2
-calls=$((passes * 4096))
 cd "$here"
 cargo build --release --quiet
 program="${CARGO_TARGET_DIR:-$here/target}/release/hailgully_bench"
@@ -24,13 +23,13 @@ count() {
 }
 
 case ${1:-} in
-'') names=$("$program" --names | grep "${tab}plain Rust\$") ;;
+'') names=$("$program" --names | grep "${tab}plain Rust$tab") ;;
 *) names=$("$program" --names --only "$1") ;;
 esac
 [ -n "$names" ] || { echo "instructions.sh: no such row" >&2; exit 1; }
 
 printf '%-34s %8s %8s %7s  %s\n' 'instructions a call' ours other ratio against
-echo "$names" | while IFS="$tab" read -r name against; do
-    echo "$(count "$name" ours) $(count "$name" other)" | awk -v calls=$calls -v name="$name" -v against="$against" '{
+echo "$names" | while IFS="$tab" read -r name against calls; do
+    echo "$(count "$name" ours) $(count "$name" other)" | awk -v calls=$((passes * calls)) -v name="$name" -v against="$against" '{
         printf "%-34s %8.1f %8.1f %7.2f  %s\n", name, $1 / calls, $2 / calls, $1 / $2, against }'
 done

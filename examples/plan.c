@@ -1,5 +1,5 @@
 /* A worked example: the cell that a flight over a tower holds, and its neighbour, from a receiver's arc-seconds; the book of what flights hold; a
- * survey at the pole and at 180 degrees; an altimeter's code; and codes that were heard wrong.
+ * survey at the pole and at 180 degrees; an altimeter's code; a place name and an offset that a crew says; and codes that were heard wrong.
  *
  *     cc -I ../target/hailgully plan.c ../target/hailgully/libhailgully.a -o plan && ./plan
  */
@@ -73,6 +73,19 @@ int main(void) {
     if (refused("altimeter", theirs.refusal)) return 1;
     printf("altimeter: layers %d to %lld\n", (int)theirs.floor, (long long)theirs.floor + theirs.thickness - 1);
     refused("in edition 1", ours.refusal);
+
+    /* A crew says where it is by a place name and an offset. The place book has one entry: its body begins at byte 6, with a name of 4 bytes and a
+     * code of 11. Another crew says a name that the book lacks. */
+    const uint8_t places[] = "\0\1" "\0\6\4\13" "mastN50J475492E", *said = (const uint8_t *)"mast-10", *other = (const uint8_t *)"mill";
+    const size_t length = sizeof places - 1; /* without the zero byte that ends the text */
+    hg_part mast = hg_place_part(said, 4, places, length);
+    if (refused("mast", mast.refusal)) return 1;
+    const uint64_t code = mast.start + mast.name_length;
+    printf("mast: %.*s, at byte %llu of the place book\n", (int)mast.code_length, (const char *)places + code, (unsigned long long)code);
+    w = hg_short_read(said, 7, places, length, base, sizeof base, 0);
+    if (refused("mast-10", w.refusal)) return 1;
+    printf("mast-10: %.*s\n", (int)w.length, (const char *)base);
+    if (hg_place_find(other, 4, places, length).number == HG_NOT_IN_BOOK) printf("mill: not in the place book\n");
 
     /* Codes that were heard wrong by radio: the board shows which character, and whether it is garbled or stands in the wrong place. */
     const char *heard[] = {"N61A", "N31-"};

@@ -1,5 +1,5 @@
-/* Hailgully: the codes of the BeiDou grid (GB/T 39409-2020), from position to code and from code to cell, and the book of the cells that flights
- * hold. For x86-64 Linux.
+/* Hailgully: the codes of the BeiDou grid (GB/T 39409-2020), from position to code and from code to cell, the book of the cells that flights hold,
+ * and place names, looked up in a place book. For x86-64 Linux.
  *
  * A unit is 1/2048 arc-second; one degree is 7,372,800 units. A position names a unit square by its west and south corner. The ranges of
  * longitude, latitude, layer and level are the constants below. docs/GRID.md has the rules, with pictures.
@@ -17,8 +17,8 @@
  * code, else 1. On a refusal every other field is 0, and no byte that was lent is changed. On success the refusal's three numbers are 0.
  *
  * A character that no code goes on with at its place is bad: HG_GARBLED where it belongs to no code, HG_MISPLACED where it is a code character, 0 to 9
- * or A to V, and only stands in the wrong place. The first bad character of a code decides. A hyphen is right at a reference code's hyphen, and
- * garbled anywhere else. The two stand at one place in every order of refusals: `7 or 20`.
+ * or A to V, and only stands in the wrong place. The first bad character of a code decides. A hyphen is right at the hyphen of a reference code or a
+ * short code, and garbled anywhere else. The two stand at one place in every order of refusals: `7 or 20`.
  *
  * A line is lent as its first byte and its length; a writer writes from the place `at` on, and the bytes before it and after the code stay. No zero
  * byte is written after a code: its length is what the call answers.
@@ -30,9 +30,16 @@
  * not before end. From a book with nothing live, whatever calls are made, each lent the same whole book as the last one left it, no two live records
  * conflict.
  *
+ * A place book is bytes: names with their plane codes. It starts with how many entries it has, at most HG_PLACES_MOST, as two bytes, the higher first.
+ * Then come the contents, four bytes an entry: where its body begins, counted from the book's first byte, as two bytes, the higher first; the length
+ * of its name, 1 to HG_NAME_MOST; the length of its code. Then come the bodies, in the same order and without gaps, each a name and a plane code that
+ * hg_plane_read accepts; the last one ends the book, which has at most HG_PLACES_BYTES bytes. No name has a hyphen, and the names rise strictly, as
+ * bytes in dictionary order. Each call checks the whole book that it is lent: any other bytes get HG_BADLY_FORMED, before all else.
+ *
  * What is asked of the caller: a pointer is good for as many bytes, or records, as the length beside it says, and is not null, also where that
- * length is 0; a book stands at a multiple of 4 bytes, as its type does; a line or a book overlaps no code that the same call reads, and is lent to
- * one call at a time. No call allocates, keeps a pointer, or reads or writes outside what it was lent. Calls may be made from any thread at once.
+ * length is 0; a book of reservations stands at a multiple of 4 bytes, as its type does; a line or a book of reservations overlaps nothing that the
+ * same call reads, and is lent to one call at a time. No call allocates, keeps a pointer, or reads or writes outside what it was lent. Calls may be
+ * made from any thread at once.
  */
 #ifndef HAILGULLY_H
 #define HAILGULLY_H
@@ -45,7 +52,7 @@ extern "C" {
 #endif
 
 #define HG_VERSION_MAJOR 0
-#define HG_VERSION_MINOR 6
+#define HG_VERSION_MINOR 7
 
 /* A refusal's number. */
 enum {
@@ -56,7 +63,7 @@ enum {
     HG_LAYER = 4,           /* layer outside its range, which is the edition's */
     HG_ROOM = 5,            /* from the place given, the line lacks bytes for the whole code; a place past the end counts as none */
     HG_LENGTH = 6,          /* a code's length is none of its kind */
-    HG_GARBLED = 7,         /* a character belongs to no code: it is neither 0 to 9 nor A to V, nor a reference code's hyphen */
+    HG_GARBLED = 7,         /* a character belongs to no code: it is neither 0 to 9 nor A to V, nor the hyphen of a reference code or a short code */
     HG_REFERENCE_CELL = 8,  /* a reference base or target is below level 5 or polar */
     HG_LEVELS_DIFFER = 9,   /* base and target levels differ */
     HG_OFFSET = 10,         /* either offset is beyond 7 */
@@ -69,7 +76,9 @@ enum {
     HG_ALL_LIVE = 17,       /* every record is live, as in a book of no records */
     HG_NOT_LIVE = 18,       /* no live record has the flight number */
     HG_BOOK_TOO_LONG = 19,  /* the book has more than 256 records */
-    HG_MISPLACED = 20       /* a code character is not allowed at its place, given those before it */
+    HG_MISPLACED = 20,      /* a code character is not allowed at its place, given those before it */
+    HG_BADLY_FORMED = 21,   /* the place book is badly formed */
+    HG_NOT_IN_BOOK = 22     /* no entry of the place book has the name */
 };
 
 /* Ranges, in units and layers; each end belongs to its range. Layers are those of edition 1, and with a 2 behind them those of edition 2. */
@@ -93,6 +102,11 @@ enum {
 /* The most records that a book has. */
 #define HG_BOOK_MOST 256
 
+/* The most entries that a place book has, the most bytes, and the longest name. */
+#define HG_PLACES_MOST 1000
+#define HG_PLACES_BYTES 65535
+#define HG_NAME_MOST 64
+
 typedef struct { uint32_t number, ordinal; uint64_t place; } hg_refusal;
 typedef struct { hg_refusal refusal; uint64_t length; } hg_written;
 /* These two end with four bytes that fill them up to a multiple of 8; nothing is said of what stands there. */
@@ -105,6 +119,8 @@ typedef struct { hg_refusal refusal; double west, south, width, height; } hg_box
 typedef struct { uint32_t live, flight, level; int32_t west, south; uint32_t width, height; int32_t floor; uint32_t thickness, start, end; } hg_reservation;
 /* at: the place of the record that was used or released, counted from 0 */
 typedef struct { hg_refusal refusal; uint64_t at; } hg_booked;
+/* The part of a place book that an entry's body occupies: the name from start on, and the code straight behind it. */
+typedef struct { hg_refusal refusal; uint64_t start, name_length, code_length; } hg_part;
 
 /* The layout that the library has: a compiler that lays the structs out otherwise is told here. */
 #if defined(__cplusplus) && __cplusplus >= 201103L
@@ -129,6 +145,7 @@ HG_LAID_OUT(offsetof(hg_reservation, level) == 8 && offsetof(hg_reservation, wes
 HG_LAID_OUT(offsetof(hg_reservation, width) == 20 && offsetof(hg_reservation, height) == 24 && offsetof(hg_reservation, floor) == 28);
 HG_LAID_OUT(offsetof(hg_reservation, thickness) == 32 && offsetof(hg_reservation, start) == 36 && offsetof(hg_reservation, end) == 40);
 HG_LAID_OUT(sizeof(hg_booked) == 24 && offsetof(hg_booked, at) == 16);
+HG_LAID_OUT(sizeof(hg_part) == 40 && offsetof(hg_part, start) == 16 && offsetof(hg_part, name_length) == 24 && offsetof(hg_part, code_length) == 32);
 #undef HG_LAID_OUT
 #endif
 
@@ -182,6 +199,22 @@ hg_booked hg_book_add_space(const uint8_t *code, size_t code_length, uint32_t fl
 /* Releases a flight: the live mark of the first live record with its number becomes 0, and no other byte changes. Refusals, in order: 19, 18.
  * Example: where record 0 is flight 7's, releasing 7 answers 0; releasing it again is refused, 18. */
 hg_booked hg_book_release(uint32_t flight, hg_reservation *book, size_t length);
+
+/* Looks a name up in a place book: number 0 where an entry has it. Refusals, in order: 21, 22. Any bytes may be asked for: an empty name, one of more
+ * than 64 bytes or one with a hyphen is in no book.
+ * Example: in the 21 bytes 0 1, 0 6 4 11, and then mastN50J475492E, which are a place book of one entry, `mast` is found; `mas` is refused, 22; and in
+ * the first 20 of these bytes any name is refused, 21. */
+hg_refusal hg_place_find(const uint8_t *name, size_t name_length, const uint8_t *places, size_t places_length);
+
+/* Where a name's entry stands in a place book: its name and its code, side by side. Refusals, in order: 21, 22.
+ * Example: in the book above, `mast` is start 6, name length 4 and code length 11. */
+hg_part hg_place_part(const uint8_t *name, size_t name_length, const uint8_t *places, size_t places_length);
+
+/* Reads a short code, which is a place name, a hyphen, M and N, and writes the plane code of its target: what hg_reference_read writes for that
+ * place's code in the name's stead. Refusals, in order: 21; 6 where the short code has under four bytes; 7 or 20 of its last three bytes, with the
+ * place in the short code; 22, 8, 12, 5.
+ * Example: with the book above, mast-10 leads to N50J475493E; mast+10 is refused, 7 at place 4, mast-1H 20 at place 6, and mill-10 22. */
+hg_written hg_short_read(const uint8_t *code, size_t code_length, const uint8_t *places, size_t places_length, uint8_t *line, size_t length, size_t at);
 
 #ifdef __cplusplus
 }

@@ -1,12 +1,12 @@
-/* Every call on lines, codes and books that are lent at exactly their size, each between two pages that nobody may touch: against the page behind it
- * or against the page before it, in turn. A code that is lent for reading lies in pages that nobody may write, and so does a book that is too long.
- * A call that reads or writes outside what it was lent, or writes into a code, ends the program. Codes are also lent 256 and 65536 bytes longer, and
- * are all to be refused.
+/* Every call on lines, codes, names and books that are lent at exactly their size, each between two pages that nobody may touch: against the page behind
+ * it or against the page before it, in turn. What is lent for reading lies in pages that nobody may write, and so does a book that is too long. A call
+ * that reads or writes outside what it was lent, or writes into a code, ends the program. Codes are also lent 256 and 65536 bytes longer, and are all
+ * to be refused; place books are also cut at every length.
  *
  *     cc -I ../target/hailgully bounds.c ../target/hailgully/libhailgully.a -o bounds && ./bounds
  *
- * Prints how many calls were made, how many of them were refused, added or released something, or accepted a long code. With the word 'outside',
- * 'code' or 'book' it makes that fault itself, and must not come to its end.
+ * Prints how many calls were made, how many of them were refused, added or released something, found a name, or accepted what is too long or cut.
+ * With the word 'outside', 'code' or 'book' it makes that fault itself, and must not come to its end.
  */
 #define _DEFAULT_SOURCE
 #include <stdio.h>
@@ -17,15 +17,16 @@
 
 #include "dice.h"
 #include "hailgully.h"
+#include "places.h"
 
-static unsigned long calls, refused, accepted, booked;
+static unsigned long calls, refused, accepted, booked, found;
 static void count(hg_refusal r) {
     calls++;
     refused += r.number != 0;
 }
 
-/* Pages for what is lent: two codes and a book for reading, a line, and a book; each has room for the longest that is lent. */
-enum { CODE, TARGET, LONG_BOOK, LINE, BOOK, ARENAS };
+/* Pages for what is lent: two codes, a book and a place book for reading, a line, and a book; each has room for the longest that is lent. */
+enum { CODE, TARGET, LONG_BOOK, PLACES, LINE, BOOK, ARENAS };
 enum { ROOM = 1 << 17 };
 static uint8_t *pages[ARENAS];
 
@@ -97,12 +98,47 @@ static void releaser(void) {
     booked += b.refusal.number == 0;
 }
 
+/* All calls of a place book that lies in its pages, with a code that lies in its own, as a name and as a short code; and the name that is found as it
+ * stands in the book. */
+static void lookers(const uint8_t *c, size_t n, const uint8_t *places, size_t length) {
+    size_t room = (size_t)between(0, 24);
+    uint8_t *line = lend(LINE, NULL, room);
+    hg_part p = hg_place_part(c, n, places, length);
+    hg_written w = hg_short_read(c, n, places, length, line, room, (size_t)between(0, 6));
+    count(hg_place_find(c, n, places, length));
+    count(p.refusal);
+    count(w.refusal);
+    found += (p.refusal.number == 0) + (w.refusal.number == 0);
+    accepted += p.start + p.name_length + p.code_length > length;
+    if (p.refusal.number == 0) count(hg_place_find(places + p.start, p.name_length, places, length));
+}
+
+/* A place book that has a code's first bytes, without its last three and with them, as names, if it may have them; one in four is then damaged, cut or
+ * longer. */
+static void places_about(const uint8_t *c, size_t n) {
+    static const char *const codes[] = {"N50J475492E", "N31A", "S000", "N36J93078B3101524314", "N31V075A9EE", "S30A00000000"};
+    static uint8_t book[256];
+    place list[3] = {{"!", 1, codes[dice() % 6]}};
+    size_t entries = 1;
+    for (size_t name = n < 4 ? n : n - 3; name > 0 && name <= n && name <= HG_NAME_MOST; name += 3)
+        if (!memchr(c, '-', name)) list[entries++] = (place){c, name, codes[dice() % 6]};
+    size_t length = make_places(book, list, entries);
+    switch (dice() % 16) {
+    case 0: book[dice() % length] = (uint8_t)dice(); break;
+    case 1: book[dice() % (2 + 4 * entries)]++; break;
+    case 2: length = dice() % length; break;
+    case 3: length++; break;
+    }
+    lookers(c, n, lend(PLACES, book, length), length);
+}
+
 static void readers(const uint8_t *code, size_t n) {
     uint8_t *c = lend(CODE, code, n);
     count(hg_plane_read(c, n).refusal);
     for (int64_t edition = 1; edition <= 3; edition++) count(hg_space_read(edition, c, n).refusal);
     count(hg_plane_box(c, n).refusal);
     adders(c, n);
+    places_about(c, n);
     size_t room = (size_t)between(0, 24);
     uint8_t *line = lend(LINE, NULL, room);
     count(hg_reference_read(c, n, line, room, (size_t)between(0, 26)).refusal);
@@ -147,6 +183,24 @@ static void writers(int64_t edition, int64_t level, int64_t longitude, int64_t l
     }
 }
 
+/* The first n bytes of a place book, asked for its last name, which has a hyphen, M and N behind it: a bad book finds nothing. */
+static void cut(const uint8_t *book, size_t n, const place *last, int good) {
+    unsigned long before = found;
+    const uint8_t *places = lend(PLACES, book, n);
+    lookers(lend(CODE, last->name, last->name_length), last->name_length, places, n);
+    lookers(lend(CODE, last->name, last->name_length + 3), last->name_length + 3, places, n);
+    if (!good) accepted += found - before;
+}
+
+/* A place book of so many entries in so many bytes, whole and cut at every length, a long one at some. */
+static void cuts(size_t entries, size_t bytes) {
+    static uint8_t book[ROOM];
+    place last = fill_places(book, entries, bytes);
+    for (size_t n = 0; n < bytes; n += bytes > 1000 ? 997 : 1) cut(book, n, &last, 0);
+    cut(book, bytes - 1, &last, 0);
+    cut(book, bytes, &last, entries <= HG_PLACES_MOST && bytes <= HG_PLACES_BYTES);
+}
+
 /* A number of a range, or one past it; often an end, or one past it. */
 static int64_t about(int64_t least, int64_t greatest) {
     switch (dice() % 8) {
@@ -174,6 +228,11 @@ int main(int words, char **word) {
         count(hg_arcseconds((double)between(-1400000000, 1400000000) / 2048.0, (double)between(-700000000, 700000000) / 2048.0).refusal);
         releaser();
     }
-    printf("%lu calls, %lu refused, %lu added or released, %lu accepted a long code\n", calls, refused, booked, accepted);
-    return calls > 10000 && refused > 1000 && booked > 1000 && accepted == 0 ? 0 : 1;
+    cuts(3, 40);
+    cuts(20, 500);
+    cuts(1000, 65535);
+    cuts(1000, 65536);
+    cuts(1001, 30000);
+    printf("%lu calls, %lu refused, %lu added or released, %lu found, %lu accepted what is too long or cut\n", calls, refused, booked, found, accepted);
+    return calls > 10000 && refused > 1000 && booked > 1000 && found > 1000 && accepted == 0 ? 0 : 1;
 }

@@ -1,5 +1,5 @@
-/* Document 01's cases P1 to P13, its run cases, the examples of source 000, clause 8.1, and document 02's Wishes 1, 2, 3 and 5, asked of the library
- * as it is linked.
+/* Document 01's cases P1 to P13, its run cases, the examples of source 000, clause 8.1, and document 02's Wishes 1, 2, 3, 5 and 6, asked of the
+ * library as it is linked.
  * Prints each case that comes out otherwise, and last how many there were; fails if there was one.
  */
 #include <inttypes.h>
@@ -8,6 +8,7 @@
 #include <string.h>
 
 #include "hailgully.h"
+#include "places.h"
 
 static int asked, wrong;
 
@@ -424,6 +425,151 @@ static void kinds(void) {
     add_plane("N61A", 3, 1, 1, RECORDS, "refused 19 0 1");
 }
 
+/* A place book as it is lent, with room for one that is too long. */
+static uint8_t places[HG_PLACES_BYTES + 65];
+static size_t places_length;
+
+/* A name looked up by both calls: "start name_length code_length", or their refusal. Nothing of the book changes. */
+static void sought(const void *name, size_t name_length, const char *what, const char *wanted) {
+    static uint8_t before[sizeof places];
+    char got[80];
+    memcpy(before, places, sizeof places);
+    hg_refusal f = hg_place_find(name, name_length, places, places_length);
+    hg_part p = hg_place_part(name, name_length, places, places_length);
+    if (p.refusal.number != 0)
+        snprintf(got, sizeof got, "refused %" PRIu32 " %" PRIu64 " %" PRIu32, p.refusal.number, p.refusal.place, p.refusal.ordinal);
+    else
+        snprintf(got, sizeof got, "%" PRIu64 " %" PRIu64 " %" PRIu64, p.start, p.name_length, p.code_length);
+    held(strcmp(got, wanted) == 0, what, got);
+    held(f.number == p.refusal.number && f.place == p.refusal.place && f.ordinal == p.refusal.ordinal, what, "another refusal in finding");
+    held(p.refusal.number == 0 || (p.start == 0 && p.name_length == 0 && p.code_length == 0), what, "a refusal with a part");
+    held(p.refusal.number != 0 || (f.ordinal == 0 && memcmp(places + p.start, name, name_length) == 0), what, "another part");
+    held(memcmp(before, places, sizeof places) == 0, what, "a change of the place book");
+}
+
+static void seek(const char *name, const char *wanted) { sought(name, strlen(name), name, wanted); }
+
+/* A short code, with room for so many bytes; no other byte changes, and with a refusal none. */
+static void shortly(const char *code, size_t room, const char *wanted) {
+    uint8_t line[HG_PLANE_MOST + 2];
+    int same = 1;
+    memset(line, '.', sizeof line);
+    hg_written w = hg_short_read((const uint8_t *)code, strlen(code), places, places_length, line, room + 1, 1);
+    written(w, line + 1, wanted);
+    held(w.refusal.number == 0 || w.length == 0, code, "a refusal with a length");
+    for (size_t i = 0; i < sizeof line; i++) same = same && (line[i] == '.' || (i > 0 && i <= w.length));
+    held(same, code, "another change of the line");
+}
+
+/* Every call on a place book that is badly formed, whatever it is asked. */
+static void badly_formed(const char *bytes, size_t length) {
+    static const char *const name[] = {"a", "b", "mast", "", "-"}, *const code[] = {"a-10", "mast-10", "-10", "a+10", ""};
+    memcpy(places, bytes, places_length = length);
+    for (size_t i = 0; i < sizeof name / sizeof name[0]; i++) {
+        seek(name[i], "refused 21 0 1");
+        shortly(code[i], 0, "refused 21 0 1");
+    }
+}
+
+static void lend_places(const place *list, size_t count) { places_length = make_places(places, list, count); }
+
+/* Whether a place book of one or two entries is well formed. */
+static void formed(const place *list, size_t count, const char *wanted) {
+    lend_places(list, count);
+    sought(list[0].name, list[0].name_length, list[0].code, wanted);
+}
+
+/* Wish 6: the header's examples, every cut of its book, and names that are in no book. */
+static void names(void) {
+    static const char mast[] = "\0\1\0\6\4\13mastN50J475492E";
+    char longest[HG_NAME_MOST + 1];
+    memset(longest, 'm', sizeof longest);
+    for (size_t length = 0; length < 21; length++) badly_formed(mast, length);
+    badly_formed(mast, 22);
+    memcpy(places, mast, places_length = 21);
+    seek("mast", "6 4 11");
+    seek("mas", "refused 22 0 1");
+    seek("masts", "refused 22 0 1");
+    seek("Mast", "refused 22 0 1");
+    seek("", "refused 22 0 1");
+    seek("mast-", "refused 22 0 1");
+    sought("mast", 5, "mast and a zero byte", "refused 22 0 1");
+    sought(longest, sizeof longest, "65 bytes", "refused 22 0 1");
+    shortly("mast-10", 11, "N50J475493E");
+    shortly("mast+10", 11, "refused 7 4 1");
+    shortly("mast-1H", 11, "refused 20 6 1");
+    shortly("mill-10", 11, "refused 22 0 1");
+    memcpy(places, "\0\0", places_length = 2);
+    seek("mast", "refused 22 0 1");
+    shortly("mast-10", 0, "refused 22 0 1");
+}
+
+/* Each refusal of a short code where those after it apply too. */
+static void short_codes(void) {
+    static const place list[] = {{"edge", 4, "N31V075A9EE"}, {"mast", 4, "N50J475492E"}, {"pole", 4, "N0000000000"}, {"wide", 4, "N31A"}};
+    lend_places(list, 4);
+    seek("edge", "18 4 11");
+    seek("wide", "63 4 4");
+    shortly("edge-0A", 11, "N31V075A9ED");
+    shortly("-1?", 0, "refused 6 0 1");
+    shortly("", 0, "refused 6 0 1");
+    shortly("milV?0", 0, "refused 20 3 1");
+    shortly("mill-?8", 0, "refused 7 5 1");
+    shortly("wide-8?", 0, "refused 20 5 1"); /* before 8 */
+    shortly("m-st-01", 0, "refused 22 0 1"); /* a hyphen in the name is looked up */
+    shortly("--01", 0, "refused 22 0 1");
+    shortly("N50J475492E-10", 0, "refused 22 0 1"); /* a reference code is no name */
+    shortly("wide-01", 0, "refused 8 0 1");
+    shortly("pole-01", 0, "refused 8 0 1");
+    shortly("edge-01", 0, "refused 12 0 1");
+    shortly("mast-10", 10, "refused 5 0 1");
+}
+
+/* What a place book asks of its names, codes and bodies. */
+static void forms(void) {
+    char name[256];
+    memset(name, 'n', sizeof name);
+    formed((place[]){{name, 64, "N31A"}}, 1, "6 64 4");
+    formed((place[]){{name, 65, "N31A"}}, 1, "refused 21 0 1");
+    formed((place[]){{name, 0, "N31A"}}, 1, "refused 21 0 1");
+    formed((place[]){{"\0", 1, "N31A"}}, 1, "6 1 4");
+    formed((place[]){{"\377", 1, "S00033"}}, 1, "6 1 6");
+    formed((place[]){{"a-b", 3, "N31A"}}, 1, "refused 21 0 1");
+    formed((place[]){{"a", 1, ""}}, 1, "refused 21 0 1");
+    formed((place[]){{"a", 1, "N31A0"}}, 1, "refused 21 0 1");
+    formed((place[]){{"a", 1, "n31A"}}, 1, "refused 21 0 1");
+    formed((place[]){{"a", 1, "N61A"}}, 1, "refused 21 0 1");
+    formed((place[]){{"a", 1, "N31A"}, {"a\0", 2, "N000"}}, 2, "10 1 4");
+    formed((place[]){{"a\0", 2, "N31A"}, {"a", 1, "N000"}}, 2, "refused 21 0 1");
+    formed((place[]){{"a", 1, "N31A"}, {"a", 1, "N31A"}}, 2, "refused 21 0 1");
+    formed((place[]){{"10", 2, "N31A"}, {"9", 1, "N31A"}}, 2, "10 2 4"); /* by bytes, and not by length */
+    formed((place[]){{"B", 1, "N31A"}, {"a", 1, "N31A"}}, 2, "10 1 4");
+    formed((place[]){{"z", 1, "N31A"}, {"\200", 1, "N31A"}}, 2, "10 1 4"); /* bytes have no sign */
+    badly_formed("\0\2\0\13\1\4\0\20\1\4.aN31AbN32A", 21); /* a gap before the first body, between both, and behind */
+    badly_formed("\0\2\0\12\1\4\0\20\1\4aN31A.bN32A", 21);
+    badly_formed("\0\2\0\12\1\4\0\17\1\4aN31AbN32A.", 21);
+    badly_formed("\0\2\0\17\1\4\0\12\1\4bN32AaN31A", 20); /* in the other order */
+    badly_formed("\0\2\0\12\1\4\0\16\1\4!N31AN32A", 19);   /* on one byte, A */
+    badly_formed("\0\2\0\0\1\4\0\5\1\4aN31AbN32A", 20);    /* offsets from the bodies' start */
+    badly_formed("\2\0\12\0\1\4\17\0\1\4aN31AbN32A", 20);  /* the lower byte first */
+}
+
+/* A book of so many entries in so many bytes, asked for its last name and for an absent one. */
+static void filled(size_t count, size_t bytes, int good) {
+    char wanted[80];
+    place last = fill_places(places, count, places_length = bytes);
+    snprintf(wanted, sizeof wanted, "%zu %zu 4", bytes - 4 - last.name_length, last.name_length);
+    sought(last.name, last.name_length, "a long place book", good ? wanted : "refused 21 0 1");
+    sought("absent", 6, "a long place book", good ? "refused 22 0 1" : "refused 21 0 1");
+}
+
+static void limits(void) {
+    filled(HG_PLACES_MOST, 30000, 1);
+    filled(HG_PLACES_MOST + 1, 30000, 0);
+    filled(HG_PLACES_MOST, HG_PLACES_BYTES, 1);
+    filled(HG_PLACES_MOST, HG_PLACES_BYTES + 1, 0);
+}
+
 int main(void) {
     plane(10, 0, 0, "N31A0000000000000000");                        /* P1 */
     plane(10, -1, 0, "N30A0000000000000000");                       /* P2 */
@@ -467,6 +613,10 @@ int main(void) {
     refusals();
     globe();
     kinds();
+    names();
+    short_codes();
+    forms();
+    limits();
     printf("%d cases, %d otherwise\n", asked, wrong);
     return wrong != 0;
 }

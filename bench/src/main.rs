@@ -3,15 +3,17 @@
 //! bench [--rounds N] [--only PART] [--strict]   a table of nanoseconds a call, ratios and bars. Each figure is the least of N rounds
 //!                                               (default 150). PART keeps the rows with it in their name. With --strict the exit code
 //!                                               is 1 if a row is over its bar.
-//! bench --names                                 the rows' names, a line each, with what they are held against.
-//! bench --instructions NAME ours|other PASSES   one side of one row, PASSES times 4096 calls, untimed: instructions.sh counts them.
+//! bench --names                                 the rows' names, a line each, with what they are held against and the calls of a pass.
+//! bench --instructions NAME ours|other PASSES   one side of one row, so many passes, untimed: instructions.sh counts them.
 
 mod arcseconds;
 mod book;
 mod book_inputs;
 mod inputs;
+mod places;
 mod plain;
 mod plain_book;
+mod plain_places;
 mod plain_reference;
 mod plain_space;
 mod plane;
@@ -30,6 +32,7 @@ fn rows() -> Vec<Row> {
     rows.extend(reference::rows(&mut dice));
     rows.extend(arcseconds::rows(&mut dice));
     rows.extend(book::rows(&mut dice));
+    rows.extend(places::rows(&mut dice));
     rows
 }
 
@@ -55,7 +58,7 @@ fn main() {
         rows.retain(|row| row.name.contains(part.as_str()));
     }
     if words.iter().any(|w| w == "--names") {
-        return rows.iter().for_each(|row| println!("{}\t{}", row.name, row.against));
+        return rows.iter().for_each(|row| println!("{}\t{}\t{}", row.name, row.against, row.calls));
     }
     let rounds = match after(&words, "--rounds") {
         Some([n, ..]) => n.parse().expect("a number of rounds"),

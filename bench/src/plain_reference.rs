@@ -71,6 +71,15 @@ fn moved(from: i32, units: i64) -> i64 {
     }
 }
 
+/// The hyphen at place k, and the cells that M and N behind it lead east and north.
+#[inline(always)]
+pub fn offset_of(code: &[u8], k: usize) -> Result<(i64, i64), Refusal> {
+    if code[k] != b'-' {
+        return Err(Refusal::wrong(code, k));
+    }
+    Ok((cells(code, k + 1)?, cells(code, k + 2)?))
+}
+
 #[inline(never)]
 pub fn follow(code: &[u8], line: &mut [u8], at: usize) -> Result<usize, Refusal> {
     if code.len() < 3 {
@@ -78,10 +87,7 @@ pub fn follow(code: &[u8], line: &mut [u8], at: usize) -> Result<usize, Refusal>
     }
     let k = code.len() - 3;
     let b = read(&code[..k])?;
-    if code[k] != b'-' {
-        return Err(Refusal::wrong(code, k));
-    }
-    let (m, n) = (cells(code, k + 1)?, cells(code, k + 2)?);
+    let (m, n) = offset_of(code, k)?;
     far_enough(&b)?;
     let x = moved(b.west, m * b.width as i64);
     let y = moved(b.south, n * b.height as i64);

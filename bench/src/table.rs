@@ -3,7 +3,7 @@
 use crate::inputs::MANY;
 use std::time::Instant;
 
-/// One pass makes MANY calls.
+/// One pass makes the row's number of calls.
 pub type Pass = Box<dyn FnMut()>;
 
 pub const PLAIN: &str = "plain Rust";
@@ -16,6 +16,8 @@ pub struct Row {
     pub against: &'static str,
     /// The greatest ratio allowed, if there is one.
     pub bar: Option<f64>,
+    /// How many calls a pass makes.
+    pub calls: usize,
     /// The least times so far, in nanoseconds a call: ours, and each of the others'.
     least: (f64, Vec<f64>),
 }
@@ -23,19 +25,24 @@ pub struct Row {
 impl Row {
     pub fn new(name: impl Into<String>, ours: Pass, others: Vec<Pass>, against: &'static str, bar: Option<f64>) -> Row {
         let least = (f64::INFINITY, vec![f64::INFINITY; others.len()]);
-        Row { name: name.into(), ours, others, against, bar, least }
+        Row { name: name.into(), ours, others, against, bar, calls: MANY, least }
     }
 
     pub fn plain(name: impl Into<String>, ours: Pass, plain: Pass, bar: Option<f64>) -> Row {
         Row::new(name, ours, vec![plain], PLAIN, bar)
     }
 
+    /// The same row with passes of so many calls: where a call takes microseconds, MANY would take too long.
+    pub fn of(self, calls: usize) -> Row {
+        Row { calls, ..self }
+    }
+
     /// Some rounds more, of which the least times are kept. The sides take turns, so that both meet the same disturbances.
     fn time(&mut self, rounds: usize) {
         for _ in 0..rounds {
-            self.least.0 = self.least.0.min(nanoseconds(&mut self.ours));
+            self.least.0 = self.least.0.min(nanoseconds(&mut self.ours, self.calls));
             for (least, pass) in self.least.1.iter_mut().zip(&mut self.others) {
-                *least = least.min(nanoseconds(pass));
+                *least = least.min(nanoseconds(pass, self.calls));
             }
         }
     }
@@ -62,13 +69,13 @@ impl Row {
 }
 
 /// A round is short, so that some rounds fall between the disturbances of a busy machine.
-fn nanoseconds(pass: &mut Pass) -> f64 {
+fn nanoseconds(pass: &mut Pass, calls: usize) -> f64 {
     const PASSES: usize = 4;
     let from = Instant::now();
     for _ in 0..PASSES {
         pass();
     }
-    from.elapsed().as_nanos() as f64 / (PASSES * MANY) as f64
+    from.elapsed().as_nanos() as f64 / (PASSES * calls) as f64
 }
 
 /// Times every row, prints the table and its verdict; whether every row is within its bar. The rows are gone through in laps, so that a machine

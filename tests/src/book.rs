@@ -10,7 +10,7 @@ pub mod plain;
 mod worked;
 
 use crate::plane::{self, SOUTH, TURN};
-use crate::refusals::{refusal, Refusal};
+use crate::refusals::{first, refusal, Refusal};
 use crate::slips;
 use crate::space::{self, Edition, SpaceCell};
 use std::ops::Range;
@@ -285,9 +285,4 @@ fn adding() -> [u32; 8] {
         slips::MISPLACED_AFTER_MINUTES => [19, 6, 7, 14, 20, 15, 16, 17],
         _ => ADDING,
     }
-}
-
-/// The first of the order that applies.
-fn first<const COUNT: usize>(applying: &[Refusal], order: [u32; COUNT]) -> Option<Refusal> {
-    order.into_iter().find_map(|number| applying.iter().find(|refusal| refusal.number == number)).copied()
 }

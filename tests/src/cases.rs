@@ -1,16 +1,18 @@
-//! What to compare: random numbers from a seed, squares of every kind; below, edges, codes, readings, records of the book and
-//! the document's own cases.
+//! What to compare: random numbers from a seed, squares of every kind; below, edges, codes, readings, records of the book,
+//! place books and the document's own cases.
 
 mod bookings;
 mod codes;
 mod document;
 mod edges;
+mod places;
 mod readings;
 
 pub use bookings::*;
 pub use codes::*;
 pub use document::*;
 pub use edges::*;
+pub use places::*;
 pub use readings::*;
 
 use crate::plane::{self, wrap, DEGREE, LENGTHS, POLAR_INDEX, SOUTH, WEST};

@@ -80,15 +80,11 @@ pub fn reaches_pole(cell: &PlaneCell, north: i64) -> bool {
     past || (if south >= 0 { south } else { -1 - south }) >= POLAR_INDEX
 }
 
-/// A reference code in reading: the base and both offsets.
-pub fn parts(code: &[u8]) -> Result<(PlaneCell, i64, i64), Refusal> {
-    let Some(length) = code.len().checked_sub(3) else {
-        return Err(refusal(6));
-    };
-    level_of(length).ok_or(refusal(6))?;
-    let base = plane::read(&code[..length])?;
+/// The hyphen, M and N that end a code of at least three bytes: both offsets,
+/// or the refusal of the first bad character, by its place in the whole code.
+pub fn signs(code: &[u8]) -> Result<(i64, i64), Refusal> {
+    let length = code.len() - 3;
     let bad = |place: usize| match (slips::current(), bad_character(place, code[place])) {
-        (slips::UNFIT_BEFORE_MISPLACED, Refusal { number: 20, .. }) if unfit(&base) => refusal(8),
         (slips::HYPHEN_PLACE_GARBLED, bad) if place == length => Refusal { number: 7, ..bad },
         (_, bad) => bad,
     };
@@ -97,6 +93,20 @@ pub fn parts(code: &[u8]) -> Result<(PlaneCell, i64, i64), Refusal> {
     }
     let east = offset(code[length + 1]).ok_or_else(|| bad(length + 1))?;
     let north = offset(code[length + 2]).ok_or_else(|| bad(length + 2))?;
+    Ok((east, north))
+}
+
+/// A reference code in reading: the base and both offsets.
+pub fn parts(code: &[u8]) -> Result<(PlaneCell, i64, i64), Refusal> {
+    let Some(length) = code.len().checked_sub(3) else {
+        return Err(refusal(6));
+    };
+    level_of(length).ok_or(refusal(6))?;
+    let base = plane::read(&code[..length])?;
+    let (east, north) = signs(code).map_err(|bad| match slips::current() {
+        slips::UNFIT_BEFORE_MISPLACED if bad.number == 20 && unfit(&base) => refusal(8),
+        _ => bad,
+    })?;
     Ok((base, east, north))
 }
 

@@ -21,6 +21,11 @@ pub fn refusal(number: u32) -> Refusal {
     Refusal { number, ordinal: 1, place: 0 }
 }
 
+/// The first of the order that applies.
+pub fn first<const COUNT: usize>(applying: &[Refusal], order: [u32; COUNT]) -> Option<Refusal> {
+    order.into_iter().find_map(|number| applying.iter().find(|refusal| refusal.number == number)).copied()
+}
+
 /// "Bytes 0 to 9 and A to V count as code characters."
 pub const CODE_CHARACTERS: &[u8; 32] = b"0123456789ABCDEFGHIJKLMNOPQRSTUV";
 

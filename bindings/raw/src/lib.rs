@@ -43,6 +43,7 @@ laid_out!(
     floor at 28: i32, thickness at 32: u32, start at 36: u32, end at 40: u32
 );
 laid_out!(HgBooked, 24, refusal at 0: HgRefusal, at at 16: u64);
+laid_out!(HgPart, 40, refusal at 0: HgRefusal, start at 16: u64, name_length at 24: u64, code_length at 32: u64);
 
 extern "C" {
     pub fn hg_plane_write(level: i64, longitude: i64, latitude: i64, line: *mut u8, length: usize, at: usize) -> HgWritten;
@@ -89,12 +90,23 @@ extern "C" {
         length: usize,
     ) -> HgBooked;
     pub fn hg_book_release(flight: u32, book: *mut HgReservation, length: usize) -> HgBooked;
+    pub fn hg_place_find(name: *const u8, name_length: usize, places: *const u8, places_length: usize) -> HgRefusal;
+    pub fn hg_place_part(name: *const u8, name_length: usize, places: *const u8, places_length: usize) -> HgPart;
+    pub fn hg_short_read(
+        code: *const u8,
+        code_length: usize,
+        places: *const u8,
+        places_length: usize,
+        line: *mut u8,
+        length: usize,
+        at: usize,
+    ) -> HgWritten;
 }
 
 /// The same calls on whole slices: the pointer and the length come from one slice, so the library gets memory that it may read, or write, for the
-/// time of the call, and no line or book overlaps a code.
+/// time of the call, and no line or book of reservations overlaps what is read.
 pub mod lent {
-    use crate::{HgBooked, HgBox, HgPlaneCell, HgReservation, HgSpaceCell, HgUnits, HgWritten};
+    use crate::{HgBooked, HgBox, HgPart, HgPlaneCell, HgRefusal, HgReservation, HgSpaceCell, HgUnits, HgWritten};
 
     #[inline(always)]
     pub fn plane_write(level: i64, longitude: i64, latitude: i64, line: &mut [u8], at: usize) -> HgWritten {
@@ -149,5 +161,20 @@ pub mod lent {
     #[inline(always)]
     pub fn book_release(flight: u32, book: &mut [HgReservation]) -> HgBooked {
         unsafe { crate::hg_book_release(flight, book.as_mut_ptr(), book.len()) }
+    }
+
+    #[inline(always)]
+    pub fn place_find(name: &[u8], places: &[u8]) -> HgRefusal {
+        unsafe { crate::hg_place_find(name.as_ptr(), name.len(), places.as_ptr(), places.len()) }
+    }
+
+    #[inline(always)]
+    pub fn place_part(name: &[u8], places: &[u8]) -> HgPart {
+        unsafe { crate::hg_place_part(name.as_ptr(), name.len(), places.as_ptr(), places.len()) }
+    }
+
+    #[inline(always)]
+    pub fn short_read(code: &[u8], places: &[u8], line: &mut [u8], at: usize) -> HgWritten {
+        unsafe { crate::hg_short_read(code.as_ptr(), code.len(), places.as_ptr(), places.len(), line.as_mut_ptr(), line.len(), at) }
     }
 }

@@ -1,5 +1,5 @@
-//! The codes of the BeiDou grid (GB/T 39409-2020): plane, space and reference codes, arc-second readings and boxes, and the book of the
-//! cells that flights hold.
+//! The codes of the BeiDou grid (GB/T 39409-2020): plane, space and reference codes, arc-second readings and boxes, the book of the
+//! cells that flights hold, and place names, looked up in a place book.
 //!
 //! Every call takes any numbers and any bytes, and answers with a result or with exactly one [`Refusal`]. Nothing is clipped, and a
 //! refusal changes nothing that was lent. The work is done by a library whose every function is proved; this crate only wraps its C
@@ -13,9 +13,15 @@
 //! 1,887,436,799; 2 cuts the layer by bits (annex C.14 of the standard), with layers from -2,147,483,648 to 2,147,483,647. Nothing in a
 //! code says its edition.
 //!
-//! A book is a slice of at most 256 [`Reservation`]s that the caller lends. Two of them conflict when they share a unit cube and a minute,
-//! and only live ones count. From a book with nothing live, whatever calls are made, each lent the same whole book as the last one left
-//! it, no two live reservations conflict.
+//! A book of reservations is a slice of at most 256 [`Reservation`]s that the caller lends. Two of them conflict when they share a unit
+//! cube and a minute, and only live ones count. From a book with nothing live, whatever calls are made, each lent the same whole book as
+//! the last one left it, no two live reservations conflict.
+//!
+//! A place book is a slice of at most 65,535 bytes that the caller lends: names with their plane codes. It starts with how many entries it
+//! has, at most 1,000, as two bytes, the higher first. Then come the contents, four bytes an entry: where its body begins, counted from
+//! the book's first byte, as two bytes, the higher first; the length of its name, 1 to 64; the length of its code. Then come the bodies,
+//! in the same order and without gaps, each a name and a plane code that [`plane_read`] accepts; the last one ends the book. No name has
+//! a hyphen, and the names rise strictly, as bytes in dictionary order. Each call checks the whole book that it is lent.
 //!
 //! ```
 //! let mut line = *b"................";
@@ -44,7 +50,7 @@ pub enum Reason {
     Room = 5,
     /// a code's length is none of its kind
     Length = 6,
-    /// a character belongs to no code: it is neither 0 to 9 nor A to V, nor a reference code's hyphen
+    /// a character belongs to no code: it is neither 0 to 9 nor A to V, nor the hyphen of a reference code or a short code
     Garbled = 7,
     /// a reference base or target is below level 5 or polar
     ReferenceCell = 8,
@@ -72,10 +78,14 @@ pub enum Reason {
     BookTooLong = 19,
     /// a code character is not allowed at its place, given those before it
     Misplaced = 20,
+    /// the place book is badly formed
+    BadlyFormed = 21,
+    /// no entry of the place book has the name
+    NotInBook = 22,
 }
 
 /// Each reason with its words: place n - 1 has number n.
-const REASONS: [(Reason, &str); 20] = [
+const REASONS: [(Reason, &str); 22] = [
     (Reason::Level, "level outside 1 to 10"),
     (Reason::Longitude, "longitude outside its range"),
     (Reason::Latitude, "latitude outside its range"),
@@ -96,6 +106,8 @@ const REASONS: [(Reason, &str); 20] = [
     (Reason::NotLive, "no live record has the flight number"),
     (Reason::BookTooLong, "the book has more than 256 records"),
     (Reason::Misplaced, "a code character is not allowed at its place, given those before it"),
+    (Reason::BadlyFormed, "the place book is badly formed"),
+    (Reason::NotInBook, "no entry of the place book has the name"),
 ];
 
 /// A refusal: no result, and no byte that was lent was changed.
@@ -192,6 +204,17 @@ pub struct ArcBox {
     pub width: f64,
     /// How high it is.
     pub height: f64,
+}
+
+/// The part of a place book that an entry's body occupies: its name and its code, side by side. Both are bytes of the lent book itself.
+#[derive(Clone, Copy, Debug, PartialEq, Eq)]
+pub struct Part<'a> {
+    /// Where the name starts, counted from the book's first byte.
+    pub start: usize,
+    /// The name.
+    pub name: &'a [u8],
+    /// The plane code, straight behind the name.
+    pub code: &'a [u8],
 }
 
 /// A record of a book, as it stands in C: `live`, the live mark (0 is not live, any other number is); `flight`, the flight's number; `level`,
@@ -391,4 +414,65 @@ pub fn book_add_space(code: &[u8], flight: u32, start: u32, end: u32, book: &mut
 /// ```
 pub fn book_release(flight: u32, book: &mut [Reservation]) -> Result<usize, Refusal> {
     booked(raw::lent::book_release(flight, book))
+}
+
+/// Looks a name up in a place book. Refusals, in order: 21, 22. Any bytes may be asked for: an empty name, one of more than 64 bytes or one
+/// with a hyphen is in no book.
+///
+/// ```
+/// use hailgully::{place_find, Reason};
+/// // One entry: its body begins at byte 6, with a name of 4 bytes and a code of 11.
+/// let places = b"\x00\x01\x00\x06\x04\x0BmastN50J475492E";
+/// assert_eq!(place_find(b"mast", places), Ok(()));
+/// assert_eq!(place_find(b"mas", places).unwrap_err().to_string(), "refused 22: no entry of the place book has the name");
+/// // Without its last byte it is no place book, whatever the name.
+/// assert_eq!(place_find(b"mast", &places[..20]).unwrap_err().to_string(), "refused 21: the place book is badly formed");
+/// assert_eq!(place_find(b"mas", &places[..20]).unwrap_err().reason, Reason::BadlyFormed);
+/// ```
+pub fn place_find(name: &[u8], places: &[u8]) -> Result<(), Refusal> {
+    answer(raw::lent::place_find(name, places), ())
+}
+
+/// The part of a place book that a name's entry occupies. Refusals, in order: 21, 22.
+///
+/// ```
+/// use hailgully::{place_part, Reason};
+/// let places = b"\x00\x01\x00\x06\x04\x0BmastN50J475492E";
+/// let part = place_part(b"mast", places).unwrap();
+/// assert_eq!((part.start, part.name, part.code), (6, &b"mast"[..], &b"N50J475492E"[..]));
+/// // Nothing is copied: these are the book's own bytes.
+/// assert!(std::ptr::eq(part.name, &places[6..10]) && std::ptr::eq(part.code, &places[10..]));
+/// assert_eq!(hailgully::plane_read(part.code).unwrap().level, 5);
+/// assert_eq!(place_part(b"mill", places).unwrap_err().reason, Reason::NotInBook);
+/// assert_eq!(place_part(b"mast", &places[..20]).unwrap_err().reason, Reason::BadlyFormed);
+/// ```
+pub fn place_part<'a>(name: &[u8], places: &'a [u8]) -> Result<Part<'a>, Refusal> {
+    let p = raw::lent::place_part(name, places);
+    // A part lies in its book; a refusal has three zeros, which name no byte.
+    let start = p.start as usize;
+    let (name, rest) = places[start..].split_at(p.name_length as usize);
+    answer(p.refusal, Part { start, name, code: &rest[..p.code_length as usize] })
+}
+
+/// Reads a short code, which is a place name, a hyphen, M and N, and writes the plane code of its target: what [`reference_read`] writes
+/// for that place's code in the name's stead; the number of bytes. Refusals, in order: 21; 6 where the short code has under four bytes; 7
+/// or 20 of its last three bytes, with the place in the short code; 22, 8, 12, 5.
+///
+/// ```
+/// use hailgully::{short_read, Reason};
+/// let places = b"\x00\x01\x00\x06\x04\x0BmastN50J475492E";
+/// let mut line = *b"<...........>";
+/// let refusal = short_read(b"mast+10", places, &mut line, 1).unwrap_err();
+/// assert_eq!((refusal.reason, refusal.number(), refusal.place), (Reason::Garbled, 7, Some(4)));
+/// let refusal = short_read(b"mast-1H", places, &mut line, 1).unwrap_err();
+/// assert_eq!((refusal.reason, refusal.number(), refusal.place), (Reason::Misplaced, 20, Some(6)));
+/// let refusal = short_read(b"mill-10", places, &mut line, 1).unwrap_err();
+/// assert_eq!((refusal.reason, refusal.number(), refusal.place), (Reason::NotInBook, 22, None));
+/// assert_eq!(short_read(b"mast+10", &places[..20], &mut line, 1).unwrap_err().reason, Reason::BadlyFormed);
+/// assert_eq!(&line, b"<...........>");
+/// assert_eq!(short_read(b"mast-10", places, &mut line, 1), Ok(11));
+/// assert_eq!(&line, b"<N50J475493E>");
+/// ```
+pub fn short_read(code: &[u8], places: &[u8], line: &mut [u8], at: usize) -> Result<usize, Refusal> {
+    written(raw::lent::short_read(code, places, line, at))
 }

@@ -1,6 +1,6 @@
 -- Two results that one contract allows are equal: for each public call of the library, and for its C form. Each contract stands here as it does in the code.
 -- Assumes nothing.
-use mathlib.Core.Path.{_≡_, sym, _∙_}
+use mathlib.Core.Path.{_≡_, refl, sym, _∙_}
 use mathlib.Core.List.{List}
 use Prim.Native.Nat.{ℕ}
 use lib.IntN.{ℤ}
@@ -31,13 +31,19 @@ use Rattle.book.specs.declared.Booked.the-variants as book-as
 use Rattle.book.specs.declared.Done.{Done}
 use Rattle.book.specs.Asking.{planeRecord, spaceRecord, toAdd, toRelease}
 use Rattle.book.specs.Book.{carried, usedIn, booked}
+use Rattle.places.specs.declared.Found.{Found}
+use Rattle.places.specs.declared.Found.the-variants as found-as
+use Rattle.places.specs.Finding.{placeFound, foundIn, partIn}
+use Rattle.places.proofs.Finding.{missing-not-badly}
+use Rattle.short_codes.specs.Text.{shortText}
 use Rattle.hailgully.specs.declared.HgBooked.{HgBooked}
+use Rattle.hailgully.specs.declared.HgPart.{HgPart}
 use Rattle.hailgully.specs.declared.HgPlaneCell.{HgPlaneCell}
 use Rattle.hailgully.specs.declared.HgRefusal.{HgRefusal}
 use Rattle.hailgully.specs.declared.HgSpaceCell.{HgSpaceCell}
 use Rattle.hailgully.specs.declared.HgUnits.{HgUnits}
 use Rattle.hailgully.specs.declared.HgWritten.{HgWritten}
-use Rattle.hailgully.specs.Results.{writtenOf, planeCellOf, spaceCellFor, unitsFor, bookedFor, BoxIs, BoxFor}
+use Rattle.hailgully.specs.Results.{writtenOf, planeCellOf, spaceCellFor, unitsFor, bookedFor, partFor, BoxIs, BoxFor}
 use Rattle.hailgully.specs.Determined.{Determined}
 
 -- ---- the library's calls
@@ -93,11 +99,33 @@ pub book-run : (q : Ask) (book : List Reservation)
 book-run q book a b e f =
     λ j. (record { answer = booked-one (a .0 .answer) (b .0 .answer) (e .0 ∙ sym (f .0)) j; used = (e .1 ∙ sym (f .1)) j }, (e .2 ∙ sym (f .2)) j)
 
--- ---- their C forms
+found-one : (a b : Found) → placeFound a ≡ placeFound b → a ≡ b
+found-one (found-as.At p) (found-as.At q) e = cc
+found-one (found-as.At p) found-as.BadlyFormed e = clash (cc)
+found-one (found-as.At p) found-as.NotInBook e = clash (cc)
+found-one found-as.BadlyFormed (found-as.At q) e = clash (cc)
+found-one found-as.BadlyFormed found-as.BadlyFormed e = refl
+found-one found-as.BadlyFormed found-as.NotInBook e = absurd (missing-not-badly (sym e))
+found-one found-as.NotInBook (found-as.At q) e = clash (cc)
+found-one found-as.NotInBook found-as.BadlyFormed e = absurd (missing-not-badly e)
+found-one found-as.NotInBook found-as.NotInBook e = refl
+
+pub places-find : (name places : List ℕ) → Determined (λ (r : Found). placeFound r ≡ foundIn name places)
+places-find name places a b e f = found-one a b (e ∙ sym f)
 
 -- an equation of the result
 equal : {A : Type 0} {x : A} → Determined (λ (r : A). r ≡ x)
 equal a b e f = e ∙ sym f
+
+-- the bytes of the part
+pub places-part : (name places : List ℕ) → Determined (λ (r : List ℕ). r ≡ partIn name places)
+places-part name places = equal
+
+pub short-read : (code places line : List ℕ) (at : ℕ)
+    → Determined (λ (r : Written × List ℕ). (written (r .0), r .1) ≡ laid (shortText code places) line at)
+short-read code places line at = written-one (shortText code places) line at
+
+-- ---- their C forms
 
 -- a writer that lays the text t down
 hg-written-one : (t : Answer (List ℕ)) (line : List ℕ) (at : ℕ)
@@ -162,3 +190,13 @@ hg-book-add-space code flight start end book = hg-booked-one (toAdd (spaceRecord
 pub hg-book-release : (flight : ℕ) (book : List Reservation)
     → Determined (λ (r : HgBooked × List Reservation). (r .0 ≡ bookedFor (carried (toRelease flight) book .0)) × (r .1 ≡ carried (toRelease flight) book .1))
 hg-book-release flight book = hg-booked-one (toRelease flight) book
+
+pub hg-place-find : (name places : List ℕ) → Determined (λ (r : HgRefusal). r ≡ partFor (foundIn name places) .refusal)
+hg-place-find name places = equal
+
+pub hg-place-part : (name places : List ℕ) → Determined (λ (r : HgPart). r ≡ partFor (foundIn name places))
+hg-place-part name places = equal
+
+pub hg-short-read : (code places line : List ℕ) (at : ℕ)
+    → Determined (λ (r : HgWritten × List ℕ). (r .0 ≡ writtenOf (laid (shortText code places) line at .0)) × (r .1 ≡ laid (shortText code places) line at .1))
+hg-short-read code places line at = hg-written-one (shortText code places) line at

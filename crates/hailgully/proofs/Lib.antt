@@ -1,4 +1,5 @@
 pub mod Boxes
 pub mod Lending
 pub mod Adds
+pub mod Parts
 pub mod Determined

@@ -1,8 +1,10 @@
 -- The C interface's structs, as a call's answer fills them: on a refusal every other field is 0, on success the refusal's three numbers are.
 -- Assumes nothing.
 use mathlib.Core.Path.{_≡_}
-use Prim.Native.Nat.{ℕ}
+use mathlib.Core.List.{List}
+use Prim.Native.Nat.{ℕ, _+_}
 use lib.IntN.{pos}
+use lib.ListN.{take, drop}
 use Rattle.grid.specs.declared.Refusal.{Refusal}
 use Rattle.grid.specs.declared.Cell.{Cell}
 use Rattle.grid.specs.declared.SpaceCell.{SpaceCell}
@@ -10,6 +12,7 @@ use Rattle.grid.specs.Answers.{Answer, accepted, refused}
 use Rattle.arcseconds.specs.declared.Units.{Units}
 use Rattle.arcseconds.specs.declared.ArcBox.{ArcBox}
 use Rattle.arcseconds.specs.Boxes.{Exactly}
+use Rattle.places.specs.declared.Spot.{Spot}
 use Rattle.hailgully.specs.declared.HgRefusal.{HgRefusal}
 use Rattle.hailgully.specs.declared.HgWritten.{HgWritten}
 use Rattle.hailgully.specs.declared.HgPlaneCell.{HgPlaneCell}
@@ -17,6 +20,7 @@ use Rattle.hailgully.specs.declared.HgSpaceCell.{HgSpaceCell}
 use Rattle.hailgully.specs.declared.HgUnits.{HgUnits}
 use Rattle.hailgully.specs.declared.HgBox.{HgBox}
 use Rattle.hailgully.specs.declared.HgBooked.{HgBooked}
+use Rattle.hailgully.specs.declared.HgPart.{HgPart}
 
 -- no refusal: all zeros
 abbrev pub noRefusal : HgRefusal
@@ -62,6 +66,15 @@ spaceCellFor (refused r) =
 unfoldable pub unitsFor : Answer Units → HgUnits
 unitsFor (accepted u) = record { refusal = noRefusal; longitude = u .longitude; latitude = u .latitude }
 unitsFor (refused r) = record { refusal = refusalOf r; longitude = pos 0; latitude = pos 0 }
+
+-- where an entry of a place book stands
+unfoldable pub partFor : Answer Spot → HgPart
+partFor (accepted p) = record { refusal = noRefusal; start = p .start; name = p .name; code = p .code }
+partFor (refused r) = record { refusal = refusalOf r; start = 0; name = 0; code = 0 }
+
+-- the bytes of a place book that a part's numbers name
+abbrev pub partBytes : HgPart → List ℕ → List ℕ
+partBytes p s = take (p .name + p .code) (drop (p .start) s)
 
 -- a refusal and a box side by side
 abbrev pub boxWith : HgRefusal → ArcBox → HgBox

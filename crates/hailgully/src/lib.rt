@@ -13,7 +13,9 @@ ghost use Rattle.arcseconds.specs.Readings.{unitsOf, unitsRead};
 ghost use Rattle.arcseconds.specs.Boxes.{BoxOf};
 ghost use Rattle.book.specs.Asking.{planeRecord, spaceRecord, toAdd, toRelease};
 ghost use Rattle.book.specs.Book.{carried, booked};
-ghost use Rattle.hailgully.specs.Results.{noRefusal, refusalOf, writtenOf, planeCellOf, spaceCellFor, unitsFor, bookedFor, boxWith, zeroCell, BoxIs, BoxFor};
+ghost use Rattle.places.specs.Finding.{placeFound, foundIn};
+ghost use Rattle.short_codes.specs.Text.{shortText};
+ghost use Rattle.hailgully.specs.Results.{noRefusal, refusalOf, writtenOf, planeCellOf, spaceCellFor, unitsFor, bookedFor, partFor, boxWith, zeroCell, BoxIs, BoxFor};
 use arcseconds::ArcBox;
 use arcseconds::BoxRead;
 use arcseconds::Units;
@@ -25,6 +27,8 @@ use grid::PlaneRead;
 use grid::Refusal;
 use grid::SpaceCell;
 use grid::Written;
+use places::Found;
+use places::Spot;
 use reservations::Reservation;
 use space::SpaceRead;
 
@@ -83,6 +87,14 @@ pub struct HgBox {
 pub struct HgBooked {
     pub refusal: HgRefusal,
     pub at: u64,
+}
+
+#[repr(C)]
+pub struct HgPart {
+    pub refusal: HgRefusal,
+    pub start: u64,
+    pub name: u64,
+    pub code: u64,
 }
 
 fn no_refusal() -> HgRefusal
@@ -271,6 +283,38 @@ fn booked_of(d: Done) -> HgBooked
     }
 }
 
+fn part_found(s: Spot) -> HgPart
+    ensures { λ r. ⌜ r ≡ partFor (accepted s) ⌝ }
+{
+    HgPart {
+        refusal: no_refusal(),
+        start: s.start as u64,
+        name: s.name as u64,
+        code: s.code as u64,
+    }
+}
+
+fn part_refused(r: Refusal) -> HgPart
+    ensures { λ s. ⌜ s ≡ partFor (refused r) ⌝ }
+{
+    HgPart {
+        refusal: refusal_of(r),
+        start: 0,
+        name: 0,
+        code: 0,
+    }
+}
+
+fn part_of(f: Found) -> HgPart
+    ensures { λ r. ⌜ r ≡ partFor (placeFound f) ⌝ }
+{
+    match f {
+        Found::At(s) => part_found(s),
+        Found::BadlyFormed => part_refused(grid::refuse(21)),
+        Found::NotInBook => part_refused(grid::refuse(22)),
+    }
+}
+
 // Writes the plane code of a level for a position. Refusals, in order: 1, 2, 3, 5.
 #[no_mangle]
 pub extern "C" fn hg_plane_write(
@@ -398,4 +442,28 @@ pub extern "C" fn hg_book_release(flight: u32, book: &mut [Reservation]) -> HgBo
     let q = book::ask_release(flight);
     let d = book::run(book, q);
     booked_of(d)
+}
+
+// Looks a name up in a place book. Refusals, in order: 21, 22.
+#[no_mangle]
+pub extern "C" fn hg_place_find(name: &[u8], places: &[u8]) -> HgRefusal
+    ensures { λ r. ⌜ r ≡ partFor (foundIn (now (name .entry)) (now (places .entry))) .refusal ⌝ }
+{
+    part_of(places::find(name, places)).refusal
+}
+
+// Where the entry of a name stands in a place book: its name and its code, side by side. Refusals, in order: 21, 22.
+#[no_mangle]
+pub extern "C" fn hg_place_part(name: &[u8], places: &[u8]) -> HgPart
+    ensures { λ r. ⌜ r ≡ partFor (foundIn (now (name .entry)) (now (places .entry))) ⌝ }
+{
+    part_of(places::find(name, places))
+}
+
+// Reads a short code with a place book and writes the plane code of its target. Refusals, in order: 21, 6, 7 or 20, 22, 8, 12, 5.
+#[no_mangle]
+pub extern "C" fn hg_short_read(code: &[u8], places: &[u8], line: &mut [u8], at: usize) -> HgWritten
+    ensures { λ r. ⌜ (r ≡ writtenOf (laid (shortText (now (code .entry)) (now (places .entry))) (now (line .entry)) at .0)) × (now (line .exit) ≡ laid (shortText (now (code .entry)) (now (places .entry))) (now (line .entry)) at .1) ⌝ }
+{
+    written_of(short_codes::read(code, places, line, at))
 }

@@ -15,8 +15,12 @@ use Rattle.space.specs.Space.{spaceText, layeredText}
 use Rattle.distances.specs.Distances.{between}
 use Rattle.reference.specs.Offsets.{movedTo, spanIn}
 use Rattle.reference.specs.Text.{fit, spelled, spanned, referenceText, targetOf, offsetIn, targetText}
+use Rattle.places.specs.Book.{bookOf}
+use Rattle.places.specs.Reading.{fair, fairAt, entriesFrom, sized, entriesOf}
+use Rattle.places.specs.Finding.{foundIn}
+use Rattle.short_codes.specs.Text.{nameIn, offsetOf, shortText}
 use Rattle.positions.specs.Cases.{given, said, cases}
 
 pub all-hold : map given cases ≡ map said cases
-unfolding unitIn levelIn squareIn editionIn planeText levelOf spaceText layeredText referenceText spanned spelled fit between spanIn targetText offsetIn targetOf movedTo codeOf cellOf spaceCodeOf spaceCellOf codeIn readIn code follow charOf digitOf wrongNumber polarCellOf planeCodes spaceCodes
+unfolding unitIn levelIn squareIn editionIn planeText levelOf spaceText layeredText referenceText spanned spelled fit between spanIn targetText offsetIn targetOf movedTo codeOf cellOf spaceCodeOf spaceCellOf codeIn readIn code follow charOf digitOf wrongNumber polarCellOf planeCodes spaceCodes bookOf fair fairAt entriesFrom sized entriesOf foundIn nameIn offsetOf shortText
 all-hold = refl

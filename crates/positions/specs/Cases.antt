@@ -1,5 +1,5 @@
 -- One table of what is asked and what the documents say: the cases P1 to P13, the codes that are refused, the ends of the ranges, the editions, bad
--- characters, and the cells about the poles.
+-- characters, place books and short codes, and the cells about the poles.
 -- Assumes nothing.
 use mathlib.Core.List.{List, [], _∷_, _++_}
 use Prim.Native.Nat.{ℕ, _+_, _*_}
@@ -14,6 +14,10 @@ use Rattle.grid.specs.Space.{spaceCellIn}
 use Rattle.plane.specs.Text.{planeText}
 use Rattle.space.specs.Space.{spaceText}
 use Rattle.reference.specs.Text.{referenceText, targetText}
+use Rattle.places.specs.declared.Spot.{Spot}
+use Rattle.places.specs.Book.{Entry, bookOf}
+use Rattle.places.specs.Finding.{foundIn}
+use Rattle.short_codes.specs.Text.{shortText}
 
 -- a text's bytes
 abbrev pub bytes : String → List ℕ
@@ -61,12 +65,24 @@ pub data Case : Type 0 where
   strays : String → ℕ → ℕ → Case
   -- base and target that are refused, with number, place and ordinal
   parts : String → String → ℕ → ℕ → ℕ → Case
+  -- a list of places: the bytes of its place book
+  lists : List Entry → List ℕ → Case
+  -- a place book and a name: where its entry stands, the name's length and the code's
+  finds : List ℕ → String → ℕ → ℕ → ℕ → Case
+  -- a place book and a name that are refused
+  misses : List ℕ → String → ℕ → Case
+  -- a place book and a short code: the plane code that it leads to
+  follows : List ℕ → String → String → Case
+  -- a place book and a short code that are refused, with number and place
+  fails : List ℕ → String → ℕ → ℕ → Case
 
--- what a call gives: a text, a cell or a space cell
+-- what a call gives: a text, a cell, a space cell or a place's spot; and the bytes of a book
 pub data Outcome : Type 0 where
   texts : Answer (List ℕ) → Outcome
   cells : Answer Cell → Outcome
   spaces : Answer SpaceCell → Outcome
+  spots : Answer Spot → Outcome
+  books : List ℕ → Outcome
 
 -- what is asked for, by the definitions of the contracts
 abbrev pub given : Case → Outcome
@@ -82,6 +98,11 @@ given (beyond e l u v z n) = texts (spaceText e l u v z)
 given (halts e t n p) = spaces (spaceCellIn e (bytes t))
 given (strays t n p) = texts (targetText (bytes t))
 given (parts b t n p k) = texts (referenceText (bytes b) (bytes t))
+given (lists es s) = books (bookOf es)
+given (finds s t at n m) = spots (foundIn (bytes t) s)
+given (misses s t n) = spots (foundIn (bytes t) s)
+given (follows s t u) = texts (shortText (bytes t) s)
+given (fails s t n p) = texts (shortText (bytes t) s)
 
 -- what the documents say
 abbrev pub said : Case → Outcome
@@ -97,6 +118,11 @@ said (beyond e l u v z n) = texts (refused (refusal n 0))
 said (halts e t n p) = spaces (refused (refusal n p))
 said (strays t n p) = texts (refused (refusal n p))
 said (parts b t n p k) = texts (refused (about k (refusal n p)))
+said (lists es s) = books s
+said (finds s t at n m) = spots (accepted (record { start = at; name = n; code = m }))
+said (misses s t n) = spots (refused (refusal n 0))
+said (follows s t u) = texts (accepted (bytes u))
+said (fails s t n p) = texts (refused (refusal n p))
 
 -- document 01's cases, the run cases of 180°, N00A and N61A as document 02 has them
 abbrev pub paperCases : List Case
@@ -392,6 +418,81 @@ polarCases =
     ∷ writes (pos 10) (pos (deg 45 0)) (southPlus 7) "S0000000000000000017"
     ∷ []
 
+-- a place
+abbrev pub place : String → String → Entry
+place n c = record { name = bytes n; code = bytes c }
+
+-- a place book of one entry, byte by byte: count 1; body at 6, a name of 4 bytes, a code of 11
+abbrev pub mast : List ℕ
+mast = 0 ∷ 1 ∷ 0 ∷ 6 ∷ 4 ∷ 11 ∷ bytes "mastN50J475492E"
+
+-- one of four: the last place that is ordinary at level 5, a polar one, one of level 1; in bytes as they rise
+abbrev pub four : List ℕ
+four =
+    0 ∷ 4 ∷ 0 ∷ 18 ∷ 2 ∷ 11 ∷ 0 ∷ 31 ∷ 1 ∷ 11 ∷ 0 ∷ 43 ∷ 1 ∷ 11 ∷ 0 ∷ 55 ∷ 1 ∷ 4
+    ∷ bytes "10N31V075A9EE9N0000000000AN50J475492EaN31A"
+
+-- place books and short codes (document 02, Wish 6), their bytes counted by hand
+abbrev pub placeCases : List Case
+placeCases =
+    lists [] (0 ∷ 0 ∷ [])
+    ∷ lists (place "mast" "N50J475492E" ∷ []) mast
+    ∷ lists (place "10" "N31V075A9EE" ∷ place "9" "N0000000000" ∷ place "A" "N50J475492E" ∷ place "a" "N31A" ∷ []) four
+    -- a name and the names about it
+    ∷ finds mast "mast" 6 4 11
+    ∷ misses mast "mas" 22
+    ∷ misses mast "masts" 22
+    ∷ misses mast "Mast" 22
+    ∷ misses mast "" 22
+    ∷ misses mast "mast-" 22
+    ∷ misses (0 ∷ 0 ∷ []) "mast" 22
+    -- names rise as bytes: not by length, and capital letters before small ones
+    ∷ finds four "10" 18 2 11
+    ∷ finds four "9" 31 1 11
+    ∷ finds four "A" 43 1 11
+    ∷ finds four "a" 55 1 4
+    ∷ misses four "1" 22
+    ∷ misses (0 ∷ 2 ∷ 0 ∷ 10 ∷ 1 ∷ 4 ∷ 0 ∷ 15 ∷ 2 ∷ 4 ∷ bytes "9N31A10N31A") "9" 21
+    ∷ misses (0 ∷ 2 ∷ 0 ∷ 10 ∷ 1 ∷ 4 ∷ 0 ∷ 15 ∷ 1 ∷ 4 ∷ bytes "aN31AAN31A") "a" 21
+    ∷ misses (0 ∷ 2 ∷ 0 ∷ 10 ∷ 1 ∷ 4 ∷ 0 ∷ 15 ∷ 1 ∷ 4 ∷ bytes "aN31AaN31A") "a" 21
+    -- no bytes, one byte less and one more
+    ∷ misses [] "mast" 21
+    ∷ misses (0 ∷ []) "mast" 21
+    ∷ misses (0 ∷ 1 ∷ 0 ∷ 6 ∷ 4 ∷ 11 ∷ bytes "mastN50J475492") "mast" 21
+    ∷ misses (0 ∷ 1 ∷ 0 ∷ 6 ∷ 4 ∷ 11 ∷ bytes "mastN50J475492E0") "mast" 21
+    -- the lower byte first, an offset from the bodies' start, a gap, an overlap
+    ∷ misses (1 ∷ 0 ∷ 6 ∷ 0 ∷ 4 ∷ 11 ∷ bytes "mastN50J475492E") "mast" 21
+    ∷ misses (0 ∷ 1 ∷ 0 ∷ 0 ∷ 4 ∷ 11 ∷ bytes "mastN50J475492E") "mast" 21
+    ∷ misses (0 ∷ 1 ∷ 0 ∷ 7 ∷ 4 ∷ 11 ∷ bytes ".mastN50J475492E") "mast" 21
+    ∷ misses (0 ∷ 2 ∷ 0 ∷ 10 ∷ 1 ∷ 4 ∷ 0 ∷ 14 ∷ 1 ∷ 4 ∷ bytes "!N31AN32A") "A" 21
+    -- no name, a hyphen, codes that the plane reader refuses
+    ∷ misses (0 ∷ 1 ∷ 0 ∷ 6 ∷ 0 ∷ 4 ∷ bytes "N31A") "" 21
+    ∷ misses (0 ∷ 1 ∷ 0 ∷ 6 ∷ 3 ∷ 4 ∷ bytes "a-bN31A") "a-b" 21
+    ∷ misses (0 ∷ 1 ∷ 0 ∷ 6 ∷ 1 ∷ 4 ∷ bytes "an31A") "a" 21
+    ∷ misses (0 ∷ 1 ∷ 0 ∷ 6 ∷ 1 ∷ 0 ∷ bytes "a") "a" 21
+    -- 64 bytes of a name, and 65
+    ∷ finds (0 ∷ 1 ∷ 0 ∷ 6 ∷ 64 ∷ 4 ∷ bytes "0123456789012345678901234567890123456789012345678901234567890123N31A")
+    "0123456789012345678901234567890123456789012345678901234567890123" 6 64 4
+    ∷ misses (0 ∷ 1 ∷ 0 ∷ 6 ∷ 65 ∷ 4 ∷ bytes "01234567890123456789012345678901234567890123456789012345678901234N31A") "0" 21
+    -- short codes: M east, N north; each refusal where those after it apply too
+    ∷ follows mast "mast-10" "N50J475493E"
+    ∷ follows four "10-0A" "N31V075A9ED"
+    ∷ fails [] "-1?" 21 0
+    ∷ fails mast "-1?" 6 0
+    ∷ fails mast "" 6 0
+    ∷ fails mast "mill+10" 7 4
+    ∷ fails mast "millV?0" 20 4
+    ∷ fails mast "mast--0" 7 5
+    ∷ fails mast "mast-1H" 20 6
+    ∷ fails mast "mill-10" 22 0
+    ∷ fails mast "--10" 22 0
+    ∷ fails mast "N50J475492E-10" 22 0
+    ∷ fails four "a-8?" 20 2
+    ∷ fails four "a-01" 8 0
+    ∷ fails four "9-01" 8 0
+    ∷ fails four "10-01" 12 0
+    ∷ []
+
 -- the table
 abbrev pub cases : List Case
-cases = paperCases ++ (endCases ++ (editionCases ++ (kindCases ++ polarCases)))
+cases = paperCases ++ (endCases ++ (editionCases ++ (kindCases ++ (placeCases ++ polarCases))))

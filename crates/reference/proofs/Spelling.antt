@@ -13,7 +13,7 @@ use borrow.Author.Tests.{leb-true, leb-false, eqb-true}
 use Rattle.grid.specs.declared.Cell.{Cell}
 use Rattle.grid.specs.declared.Refusal.{Refusal}
 use Rattle.grid.specs.Characters.{charOf, digitOf}
-use Rattle.grid.specs.Answers.{Answer, accepted, refused, wrongLength}
+use Rattle.grid.specs.Answers.{Answer, accepted, refused, andThen, wrongLength}
 use Rattle.grid.specs.Codes.{readIn}
 use Rattle.grid.specs.Plane.{cellOf}
 use Rattle.grid.proofs.Answers.{then-refused, accepted-inj, unless-accepted, then-from}
@@ -22,6 +22,7 @@ use Rattle.grid.proofs.Characters.{digit-char, char-digit}
 use Rattle.reference.specs.Offsets.{offsetDigit}
 use Rattle.reference.specs.Text.{referenceCode, Aim, targetOf, offsetIn, aimed, aimOf, targetText}
 use Rattle.reference.specs.Meaning.{Formed}
+use Rattle.reference.specs.inner.Parts.{targetFrom}
 use Rattle.reference.proofs.Numbers.{digit-fits}
 
 -- ---- a code and three characters behind it
@@ -108,6 +109,20 @@ as-offset k h m n o e =
     let r = unless-accepted (offsetDigit (digitOf n)) _ _ o (q .1) in
     subst (λ (x : ℕ × ℕ). AsOffset h m n (x .0) (x .1)) (accepted-inj (r .1))
     (record { hyphen = eqb-true h 45 (p .0); m-is = refl; n-is = refl; east = q .0; north = r .0 })
+
+-- they are, wherever they stand
+offset-anywhere : (j k h m n : ℕ) (o : ℕ × ℕ) → offsetIn k h m n ≡ accepted o → offsetIn j h m n ≡ accepted o
+unfolding offsetIn
+offset-anywhere j k h m n o e = let d = as-offset k h m n o e in rw (d .hyphen, d .m-is, d .n-is, d .east, d .north) refl
+
+-- and lead from a base's code to what the reference code of both leads to
+pub target-behind : (w : List ℕ) (k h m n : ℕ) (o : ℕ × ℕ) → offsetIn k h m n ≡ accepted o → targetText (behind w h m n) ≡ targetFrom (cellOf w) (o .0) (o .1)
+unfolding targetText
+target-behind w k h m n o e = ap (λ (a : Answer Aim). andThen a targetOf) (read-behind w h m n) ∙ go (cellOf w)
+  where
+    go : (x : Answer Cell) → andThen (aimed (length w) h m n x) targetOf ≡ targetFrom x (o .0) (o .1)
+    go (accepted b) = rw (offset-anywhere (length w) k h m n o e) refl
+    go (refused r) = refl
 
 aimed-of : (k h m n : ℕ) (x : Answer Cell) (a : Aim) → aimed k h m n x ≡ accepted a → (x ≡ accepted (a .from)) × AsOffset h m n (a .m) (a .n)
 aimed-of k h m n x a e =

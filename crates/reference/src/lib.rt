@@ -11,10 +11,10 @@ ghost use Rattle.grid.specs.Units.{TURN, index};
 ghost use Rattle.grid.specs.inner.Roads.{squareOf};
 ghost use Rattle.grid.specs.Answers.{accepted, andThen, planeRead};
 ghost use Rattle.grid.specs.Laying.{laid, written};
-ghost use Rattle.grid.specs.Plane.{longitudeAt};
+ghost use Rattle.grid.specs.Plane.{longitudeAt, cellOf};
 ghost use Rattle.reference.specs.Offsets.{offsetDigit, movedTo, spanIn, spanOf};
 ghost use Rattle.reference.specs.Text.{fit, referenceCode, spelled, spanned, related, referenceText, targetSquare, targetOf, offsetIn, aimed, targetText};
-ghost use Rattle.reference.specs.inner.Parts.{offsetAnswer, offsetText, Small, goalText, Layable, Known, AsRead, Steps};
+ghost use Rattle.reference.specs.inner.Parts.{offsetAnswer, offsetText, Small, goalText, Layable, targetFrom, Known, AsRead, Steps};
 use distances::LAST;
 use grid::Cell;
 use grid::HALF;
@@ -26,7 +26,7 @@ use grid::TURN;
 use grid::Written;
 
 // M and N as digits, or why there are none.
-enum Offset {
+pub enum Offset {
     By(u32, u32),
     Refused(Refusal),
 }
@@ -211,7 +211,7 @@ fn target_of(b: Cell, m: u32, n: u32) -> Goal
 }
 
 // The hyphen at place k, M and N: refusal 7 or 20, else the two digits. They are read by themselves: a base is not needed for it.
-fn offset_in(k: usize, h: u8, m: u8, n: u8) -> Offset
+pub fn offset_in(k: usize, h: u8, m: u8, n: u8) -> Offset
     requires { ⌜ k < 18446744073709551613 ⌝ }
     ensures { λ r. ⌜ offsetAnswer r ≡ offsetIn k h m n ⌝ }
 {
@@ -365,5 +365,29 @@ pub fn read(code: &[u8], line: &mut [u8], at: usize) -> Written
     ensures { λ r. ⌜ (written r, now (line .exit)) ≡ laid (targetText (now (code .entry))) (now (line .entry)) at ⌝ }
 {
     let a = goal_of(code);
+    lay_target(a, line, at)
+}
+
+// ---- for short codes, which have no base of their own
+
+// The base's 6, 7 or 20, else where M and N lead from it.
+fn goal_by(base: PlaneRead, m: u32, n: u32) -> Goal
+    requires { ⌜ AsRead base × (offsetDigit m ≡ true) × (offsetDigit n ≡ true) ⌝ }
+    ensures { λ r. ⌜ (goalText r ≡ targetFrom (planeRead base) m n) × Layable r ⌝ }
+{
+    match base {
+        PlaneRead::Found(c) => target_of(c, m, n),
+        PlaneRead::Refused(r) => Goal::Refused(r),
+    }
+}
+
+// The plane code that M and N, as digits, lead to from a base's plane code, written into the line from `at` on.
+// Refusals, in this order: 6, 7 or 20 of the base, 8, 12, 5. A refusal changes no byte.
+pub fn read_by(base: &[u8], m: u32, n: u32, line: &mut [u8], at: usize) -> Written
+    requires { ⌜ (offsetDigit m ≡ true) × (offsetDigit n ≡ true) ⌝ }
+    ensures { λ r. ⌜ (written r, now (line .exit)) ≡ laid (targetFrom (cellOf (now (base .entry))) m n) (now (line .entry)) at ⌝ }
+{
+    let b = plane::read(base);
+    let a = goal_by(b, m, n);
     lay_target(a, line, at)
 }

@@ -19,6 +19,9 @@ pub enum Call {
     BookAddPlane,
     BookAddSpace,
     BookRelease,
+    PlaceFind,
+    PlacePart,
+    ShortRead,
 }
 
 use Call::*;
@@ -27,12 +30,12 @@ use Call::*;
 pub type Named = (u32, u32);
 
 /// A refusal, and those before it in the order under which it has no meaning: a code without a level has no length that a line could lack, one
-/// that cannot be read has no cell, and a start not before the end no minute. 7 and 20 are neighbours that share one place of the order: a code's
-/// first bad character is either garbled or misplaced.
+/// that cannot be read has no cell, a start not before the end no minute, and a name that is in no book no code. 7 and 20 are neighbours that share
+/// one place of the order: a code's first bad character is either garbled or misplaced.
 type Ordered = (Named, &'static [Named]);
 
 impl Call {
-    pub const ALL: [Call; 13] = [
+    pub const ALL: [Call; 16] = [
         PlaneWrite,
         PlaneRead,
         SpaceWrite1,
@@ -46,6 +49,9 @@ impl Call {
         BookAddPlane,
         BookAddSpace,
         BookRelease,
+        PlaceFind,
+        PlacePart,
+        ShortRead,
     ];
 
     pub fn space_write(edition: Edition) -> Call {
@@ -84,6 +90,9 @@ impl Call {
             BookAddPlane => "hg_book_add_plane",
             BookAddSpace => "hg_book_add_space",
             BookRelease => "hg_book_release",
+            PlaceFind => "hg_place_find",
+            PlacePart => "hg_place_part",
+            ShortRead => "hg_short_read",
         }
     }
 
@@ -125,6 +134,17 @@ impl Call {
                 ((17, 1), &[]),
             ],
             BookRelease => &[((19, 1), &[]), ((18, 1), &[])],
+            PlaceFind | PlacePart => &[((21, 1), &[]), ((22, 1), &[])],
+            ShortRead => &[
+                ((21, 1), &[]),
+                ((6, 1), &[]),
+                ((7, 1), &[]),
+                ((20, 1), &[(7, 1)]),
+                ((22, 1), &[]),
+                ((8, 1), &[(6, 1), (22, 1)]),
+                ((12, 1), &[(6, 1), (7, 1), (20, 1), (22, 1)]),
+                ((5, 1), &[(6, 1), (22, 1)]),
+            ],
         }
     }
 
@@ -138,13 +158,15 @@ impl Call {
         self.ordered()[place].0
     }
 
-    /// The pairs of places at which two refusals can apply together; neighbours always can, but for a code's 7 and 20.
+    /// The pairs of places at which two refusals can apply together; neighbours always can, but for a code's 7 and 20, and 22 and the 8 of the code
+    /// that is then missing.
     pub fn pairs(self) -> Vec<(usize, usize)> {
         let order = self.ordered();
         let together = |&(first, second): &(usize, usize)| {
             let (earlier, (later, without)) = (order[first].0, order[second]);
             let apart = without.contains(&earlier);
-            assert!(!apart || second > first + 1 || (earlier.0, later.0) == (7, 20), "{self:?}: neighbours that cannot apply together");
+            let known = matches!((earlier.0, later.0), (7, 20) | (22, 8));
+            assert!(!apart || second > first + 1 || known, "{self:?}: neighbours that cannot apply together");
             !apart
         };
         let each = (0..order.len()).flat_map(|second| (0..second).map(move |first| (first, second)));

@@ -1,6 +1,7 @@
-//! One case of each call: the oracle and the library are asked the same, and every number and every lent byte is compared, of the codes too.
+//! One case of each call: the oracle and the library are asked the same, and every number and every lent byte is compared, of what is only read too.
 
 mod book;
+mod places;
 
 pub use book::Books;
 
@@ -24,6 +25,8 @@ pub struct Run {
     pub tally: Tally,
     /// Where only a first difference is asked for: whether a thread has found it.
     found: Option<Arc<AtomicBool>>,
+    /// The place book that was last asked, and whether it is well formed.
+    last_places: (Vec<u8>, bool),
 }
 
 /// A code as text, with anything odd escaped.
@@ -37,7 +40,7 @@ fn bits(applies: &[bool]) -> u32 {
     each.map(|(at, &applies)| u32::from(applies) << at).sum()
 }
 
-/// A code that is lent to be read, and its twin.
+/// A code, a name or a place book that is lent to be read, and its twin.
 struct Held {
     lent: Lent,
     twin: Lent,
@@ -45,7 +48,7 @@ struct Held {
 
 impl Run {
     pub fn new(seed: u64, found: Option<Arc<AtomicBool>>) -> Run {
-        Run { random: Random::new(seed), tally: Tally::default(), found }
+        Run { random: Random::new(seed), tally: Tally::default(), found, last_places: (Vec::new(), false) }
     }
 
     /// Whether only a first difference is asked for, and is found: then no case is asked any more.
@@ -78,10 +81,10 @@ impl Run {
         Held { twin: lent.twin(), lent }
     }
 
-    /// A code that was only to be read is as it was, and so are the bytes around it.
+    /// What was only to be read is as it was, and so are the bytes around it.
     fn kept(&mut self, held: &Held, told: impl FnOnce() -> String) {
         if let Some(place) = held.lent.difference(&held.twin) {
-            self.tally.difference(|| format!("{}\n  the library changed the byte at {place} of the code it was lent", told()));
+            self.tally.difference(|| format!("{}\n  the library changed the byte at {place} of what it was lent to read", told()));
         }
     }
 
@@ -263,12 +266,9 @@ impl Run {
         self.kept(&held, told);
         let base = &code[..code.len().saturating_sub(3)];
         let six = plane::level_of(base.len()).is_none();
-        let parts = reference::parts(code);
-        let bad = if six { plane::bad(base) } else { parts.err() };
-        let eight = plane::read(base).as_ref().is_ok_and(reference::unfit);
-        let twelve = parts.is_ok_and(|(base, _, north)| reference::reaches_pole(&base, north));
-        let five = !six && length.saturating_sub(at) < base.len();
-        self.count(Call::ReferenceRead, u32::from(six) | bad_bits(bad) << 1 | bits(&[eight, twelve, five]) << 3, own.err());
+        let bad = if six { plane::bad(base) } else { reference::parts(code).err() };
+        let later = led_bits(code, length.saturating_sub(at));
+        self.count(Call::ReferenceRead, u32::from(six) | bad_bits(bad) << 1 | later << 3, own.err());
         if own.is_ok() {
             self.accepted(Call::ReferenceRead, base);
         }
@@ -320,6 +320,14 @@ fn bad_bits(bad: Option<Refusal>) -> u32 {
 fn reader_bits(code: &[u8], own: Option<Refusal>) -> u32 {
     let six = plane::level_of(code.len()).is_none();
     u32::from(six) | bad_bits(if six { plane::bad(code) } else { own }) << 1
+}
+
+/// Which of 8, 12 and 5 apply to a reference code in reading, with so many bytes for what it leads to.
+fn led_bits(code: &[u8], room: usize) -> u32 {
+    let base = &code[..code.len().saturating_sub(3)];
+    let eight = plane::read(base).as_ref().is_ok_and(reference::unfit);
+    let twelve = reference::parts(code).is_ok_and(|(base, _, north)| reference::reaches_pole(&base, north));
+    bits(&[eight, twelve, plane::level_of(base.len()).is_some() && room < base.len()])
 }
 
 /// Cells of two levels that lie more than seven cells of either size apart.

@@ -11,6 +11,7 @@ mod characters;
 mod ends;
 mod long;
 mod own;
+mod places;
 mod plane;
 mod reference;
 mod regions;
@@ -35,6 +36,7 @@ pub fn all(huge: bool) -> Vec<Family> {
     [
         own::families(),
         long::families(huge),
+        places::families(),
         regions::families(),
         ends::families(),
         characters::families(),

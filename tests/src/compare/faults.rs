@@ -1,15 +1,16 @@
 //! Faults of a library, made between it and the checks: a length, a place or an edition reaches it cut to 8, 16 or 32 bits, a lent byte comes back
-//! changed, a longitude or latitude is clipped to its range or refused at its upper end, the book is kept otherwise, or garbled and misplaced are told
-//! apart otherwise. Turned on by number like the oracle's slips, after which they are numbered; each must be found.
+//! changed, a longitude or latitude is clipped to its range or refused at its upper end, the book is kept otherwise, garbled and misplaced are told
+//! apart otherwise, or names are looked up otherwise. Turned on by number like the oracle's slips, after which they are numbered; each must be found.
 
 pub mod book;
 pub mod characters;
+pub mod places;
 
 use hailgully_raw::HgReservation;
 use hailgully_tests::slips;
 
 /// The lengths, places and editions that the calls take.
-const SIZES: [&str; 21] = [
+const SIZES: [&str; 29] = [
     "hg_plane_write length",
     "hg_plane_write at",
     "hg_plane_read length",
@@ -31,10 +32,18 @@ const SIZES: [&str; 21] = [
     "hg_book_add_space code_length",
     "hg_book_add_space length",
     "hg_book_release length",
+    "hg_place_find name_length",
+    "hg_place_find places_length",
+    "hg_place_part name_length",
+    "hg_place_part places_length",
+    "hg_short_read code_length",
+    "hg_short_read places_length",
+    "hg_short_read length",
+    "hg_short_read at",
 ];
 
 /// What they are lent.
-const LENT: [&str; 15] = [
+const LENT: [&str; 22] = [
     "hg_plane_write line",
     "hg_plane_read code",
     "hg_space_write line",
@@ -50,6 +59,13 @@ const LENT: [&str; 15] = [
     "hg_book_add_space code",
     "hg_book_add_space book",
     "hg_book_release book",
+    "hg_place_find name",
+    "hg_place_find places",
+    "hg_place_part name",
+    "hg_place_part places",
+    "hg_short_read code",
+    "hg_short_read places",
+    "hg_short_read line",
 ];
 
 /// The longitudes and latitudes that they take, in units and in arc-seconds.
@@ -70,7 +86,8 @@ const CLIPS: usize = CHANGES + LENT.len();
 const ENDS: usize = CLIPS + POSITIONS.len();
 const BOOKS: usize = ENDS + POSITIONS.len();
 const CHARACTERS: usize = BOOKS + book::LIST.len();
-const FAULTS: usize = CHARACTERS + characters::COUNT;
+const PLACES: usize = CHARACTERS + characters::COUNT;
+const FAULTS: usize = PLACES + places::LIST.len();
 
 enum Fault {
     Cut(&'static str, u32),
@@ -80,6 +97,7 @@ enum Fault {
     Book(&'static str),
     /// What it does, and with which code, if not with all.
     Character(&'static str, Option<&'static str>),
+    Places(&'static str),
 }
 
 /// How many slips and faults there are.
@@ -91,6 +109,7 @@ pub fn count() -> u32 {
 fn fault(number: u32) -> Option<Fault> {
     let at = (number as usize).checked_sub(slips::LIST.len() + 1)?;
     Some(match at {
+        PLACES.. => Fault::Places(places::LIST[at - PLACES]),
         CHARACTERS.. => characters::numbered(at - CHARACTERS),
         BOOKS.. => Fault::Book(book::LIST[at - BOOKS]),
         ENDS.. => Fault::EndRefused(POSITIONS[at - ENDS]),
@@ -118,8 +137,7 @@ pub fn words(number: u32) -> String {
         Some(Fault::Changed(lent)) => format!("the library changes a byte of {lent}"),
         Some(Fault::Clipped(position)) => format!("the library clips {position} to its range"),
         Some(Fault::EndRefused(position)) => format!("the library refuses {position} at its upper end"),
-        Some(Fault::Book(does)) => format!("the library {does}"),
-        Some(Fault::Character(does, None)) => format!("the library {does}"),
+        Some(Fault::Book(does) | Fault::Character(does, None) | Fault::Places(does)) => format!("the library {does}"),
         Some(Fault::Character(does, Some(code))) => format!("the library {does} {code}"),
     }
 }
@@ -139,7 +157,7 @@ pub fn cut_edition(which: &str, edition: i64) -> i64 {
     cut(which, edition as usize) as i64
 }
 
-/// A lent line or code as it comes back.
+/// A lent line, code, name or place book as it comes back.
 #[inline(always)]
 pub fn change(lent: &str, bytes: &mut [u8]) {
     match (fault(slips::current()), bytes.last_mut()) {

@@ -39,7 +39,7 @@ impl Lent {
         lent
     }
 
-    /// A copy of a code, with random bytes before and after it.
+    /// A copy of a code, a name or a place book, with random bytes before and after it.
     pub fn code(random: &mut Random, code: &[u8]) -> Lent {
         let mut lent = Lent::line(random, code.len());
         let length = code.len();

@@ -1,10 +1,15 @@
 //! The library's calls on lent slices, and what each should return for the oracle's answer.
 
+mod places;
+
+pub use places::{place_find, place_part, short_read};
+
 use crate::faults::book::{adding, releasing};
 use crate::faults::characters::refused;
 use crate::faults::{change, change_book, cut, cut_edition, reading, units};
 use hailgully_raw::*;
 use hailgully_tests::book::{Kind, Request, Reservation};
+use hailgully_tests::places::Part;
 use hailgully_tests::plane::{PlaneCell, LATITUDE, LONGITUDE};
 use hailgully_tests::refusals::Refusal;
 use hailgully_tests::space::SpaceCell;
@@ -145,17 +150,31 @@ macro_rules! answers {
             fn of(own: Result<$own, Refusal>) -> $record {
                 match own {
                     Ok($given) => $made,
-                    Err(Refusal { number, ordinal, place }) => {
-                        $record { refusal: HgRefusal { number, ordinal, place }, ..$record::default() }
-                    }
+                    Err(refused) => $record { refusal: HgRefusal::of(Err(refused)), ..$record::default() },
                 }
             }
         }
     };
 }
 
+/// All three numbers are 0 where nothing is refused.
+impl Record<()> for HgRefusal {
+    fn of(own: Result<(), Refusal>) -> HgRefusal {
+        match own {
+            Ok(()) => HgRefusal::default(),
+            Err(Refusal { number, ordinal, place }) => HgRefusal { number, ordinal, place },
+        }
+    }
+}
+
 answers!(HgWritten, usize, |length| HgWritten { length: length as u64, ..HgWritten::default() });
 answers!(HgBooked, usize, |at| HgBooked { at: at as u64, ..HgBooked::default() });
+answers!(HgPart, Part, |part| HgPart {
+    start: part.start as u64,
+    name_length: part.name_length as u64,
+    code_length: part.code_length as u64,
+    ..HgPart::default()
+});
 answers!(HgUnits, (i32, i32), |units| HgUnits { longitude: units.0, latitude: units.1, ..HgUnits::default() });
 answers!(HgPlaneCell, PlaneCell, |cell| HgPlaneCell {
     level: cell.level,

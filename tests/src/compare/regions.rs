@@ -113,7 +113,7 @@ pub fn wanted(call: Call) -> Vec<(usize, String)> {
             _ if slot >= SIGNS => {
                 matches!(call, Call::SpaceWrite1 | Call::SpaceRead1 | Call::SpaceWrite2 | Call::SpaceRead2 | Call::BookAddSpace)
             }
-            Call::ReferenceWrite | Call::ReferenceRead => region <= WEST && level >= 5,
+            Call::ReferenceWrite | Call::ReferenceRead | Call::ShortRead => region <= WEST && level >= 5,
             _ => levels(region).contains(&level),
         }
     });

@@ -13,7 +13,7 @@ use Rattle.reference.specs.declared.Goal.{Goal}
 use Rattle.reference.specs.declared.Goal.the-variants as goal
 use Rattle.reference.specs.declared.Offset.{Offset}
 use Rattle.reference.specs.declared.Offset.the-variants.{By, Refused}
-use Rattle.reference.specs.Text.{referenceCode}
+use Rattle.reference.specs.Text.{referenceCode, targetOf}
 
 -- M and N, or the refusal
 abbrev pub offsetAnswer : Offset → Answer (ℕ × ℕ)
@@ -38,6 +38,10 @@ goalText (goal.Refused r) = refused r
 abbrev pub Layable : Goal → Type 0
 Layable (goal.At l p) = (1 ≤ l) × (l ≤ 10) × (p .x < HALF) × (p .y < QUARTER)
 Layable (goal.Refused r) = Unit {0}
+
+-- what M and N, as digits, lead to from a base that was read: its refusal, 8, 12 in that order, else the target's plane code
+abbrev pub targetFrom : Answer Cell → ℕ → ℕ → Answer (List ℕ)
+targetFrom base m n = andThen base (λ b. targetOf (record { from = b; m = m; n = n }))
 
 -- c is the cell of an accepted code
 abbrev pub Known : Cell → Type 0

@@ -1,18 +1,26 @@
 //! Lengths, places and editions that would be taken for others if they were cut to fewer bits, or took a sign: for every call, around 2^7 to 2^32;
-//! lengths of books too.
+//! lengths of books and of place books too.
 
 use super::{fixed, Family};
 use crate::checks::Run;
 use hailgully_tests::book::{Kind, Request, Reservation};
 use hailgully_tests::cases;
+use hailgully_tests::places::plain::made;
 use hailgully_tests::plane::{write, LENGTHS};
 use hailgully_tests::space::{self, Edition};
 
 /// Memory of 2^31 bytes and more is lent only where it may be: untouched pages cost a machine nothing, and an emulator gigabytes.
 pub fn families(huge: bool) -> Vec<Family> {
-    let mut families = vec![fixed("long: editions", 16, editions), fixed("long: books", SMALL.len() as u64, books)];
+    let mut families = vec![
+        fixed("long: editions", 16, editions),
+        fixed("long: books", SMALL.len() as u64, books),
+        fixed("long: names, short codes and place books", SMALL.len() as u64, |run, piece| places(run, around(&SMALL, piece))),
+    ];
     if huge {
         families.push(fixed("long: huge books", HUGE.len() as u64, huge_books));
+        families.push(fixed("long: huge names, short codes and place books", HUGE.len() as u64, |run, piece| {
+            places(run, around(&HUGE, piece))
+        }));
     }
     families.push(fixed("long: lines and codes", 16 * SMALL.len() as u64, |run, piece| lines_and_codes(run, around(&SMALL, piece))));
     if huge {
@@ -54,6 +62,28 @@ fn books(run: &mut Run, piece: u64) {
 fn huge_books(run: &mut Run, piece: u64) {
     let (near, (longitude, latitude)) = around(&HUGE, piece);
     run.huge_book(&write::finest(longitude, latitude), near + 3);
+}
+
+/// Names, short codes and place books longer by the number, which would be good ones if it were cut off; short codes whose last bytes are far behind
+/// their first, and lines.
+fn places(run: &mut Run, (near, (longitude, latitude)): Around) {
+    let base = &write::finest(longitude, latitude)[..LENGTHS[4]];
+    let book = made(&[cases::placed(b"mast", base)]);
+    for by in (1..=if near <= 1 << 16 { 3 } else { 1 }).map(|times| times * near) {
+        let fill = b"0-"[by / near % 2];
+        let long = longer(&book, by, fill);
+        run.place(b"mast", &long);
+        run.short_read(b"mast-1A", &long, 24, 0);
+        run.place(&longer(b"mast", by, fill), &book);
+        let mut code = longer(b"mast-1A", by, fill);
+        run.short_read(&code, &book, 24, 0);
+        for end in [b"-1A", b"-V-", b"?-V"] {
+            let start = code.len() - 3;
+            code[start..].copy_from_slice(end);
+            run.short_read(&code, &book, 24, 0);
+        }
+    }
+    rooms(near, base.len(), |length, at| run.short_read(b"mast-1A", &book, length, at));
 }
 
 /// Lines with just enough room, or one byte less, at places around the number; lines of a little more than the number; places near 2^64.

@@ -1,5 +1,5 @@
-//! Before the quick oracle is trusted: it against the lists, edition 2 against the layer's binary digits written out, and conflicts against what
-//! each record holds.
+//! Before the quick oracle is trusted: it against the lists, edition 2 against the layer's binary digits written out, conflicts against what each
+//! record holds, and place books against the bytes that their entries make.
 
 use super::{Family, Kind};
 use crate::checks::{show, Run};
@@ -7,6 +7,8 @@ use hailgully_tests::arcseconds::arcseconds;
 use hailgully_tests::book::{self, plain};
 use hailgully_tests::cases::{self, About, MINUTES};
 use hailgully_tests::layers::height_cell;
+use hailgully_tests::places;
+use hailgully_tests::places::plain::{agrees, loosely, made};
 use hailgully_tests::plane::{self, listing, LENGTHS, POLAR_INDEX};
 use hailgully_tests::reference::{self, OFFSETS};
 use hailgully_tests::space::{self, Edition};
@@ -21,6 +23,7 @@ pub fn families() -> Vec<Family> {
         own("own check: reference codes against steps", 40_000, steps),
         own("own check: conflicts against what records hold", 40_000, conflicts),
         own("own check: longitudes of a small globe, listed", 40_000, small_globe),
+        own("own check: place books by offsets against bytes made again", 10_000, books_of_places),
     ]
 }
 
@@ -183,4 +186,17 @@ fn small_globe(run: &mut Run) {
     let [listed, with] = [one, other].map(|(west, width)| plain::listed(west, width, turn));
     let (quick, plain) = (book::pieces_meet(&quick, &again), !listed.is_disjoint(&with));
     own(run, quick == plain, || format!("arcs {one:?} and {other:?} of {turn}: {quick}, listed {plain}"));
+}
+
+/// A place book is well formed exactly when its list is good and makes the same bytes again; each entry has its part.
+fn books_of_places(run: &mut Run) {
+    let count = run.random.below(8) as usize;
+    let list = cases::place_list(&mut run.random, count);
+    for book in [made(&list), cases::spoiled(&mut run.random, &list), cases::spoiled(&mut run.random, &list)] {
+        let parts = places::entries(&book).iter().flatten().all(|entry| {
+            let body = [&entry.name[..], &entry.code].concat();
+            book[entry.start..].starts_with(&body) && loosely(&entry.name, &book) == Some(&entry.code)
+        });
+        own(run, parts && agrees(&book), || format!("place book {}", show(&book)));
+    }
 }

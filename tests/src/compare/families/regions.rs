@@ -5,6 +5,7 @@ use super::{fixed, Family};
 use crate::checks::Run;
 use hailgully_tests::book::{Kind, Request, Reservation};
 use hailgully_tests::cases;
+use hailgully_tests::places::plain::made;
 use hailgully_tests::plane::listing::{self, Listed};
 use hailgully_tests::plane::{wrap, write, Region, LENGTHS};
 use hailgully_tests::space::{self, Edition};
@@ -27,7 +28,8 @@ fn first_level(run: &mut Run, piece: u64) {
     listing::first_level().iter().skip(piece as usize).step_by(60).for_each(|cell| corners(run, cell));
 }
 
-/// The south-west and the north-east square of a cell, above and below ground, written, read and added to a book at its level and all finer ones.
+/// The south-west and the north-east square of a cell, above and below ground, written, read, looked up in a place book and added to a book at its level
+/// and all finer ones.
 fn corners(run: &mut Run, cell: &Listed) {
     let north_east = (cell.west + cell.width - 1, cell.south + cell.height - 1);
     for ((eastward, latitude), layer) in [((cell.west, cell.south), 1_234_567_890), (north_east, -1_234_567_890)] {
@@ -44,6 +46,7 @@ fn corners(run: &mut Run, cell: &Listed) {
                 run.space_write(edition, level as i64, (longitude, latitude), layer, 33, 1);
                 run.space_read(edition, &tall[..tall_length]);
             }
+            place(run, &flat[..length]);
             add(run, Kind::Plane, &flat[..length], &free);
             add(run, Kind::Space, &tall[0][..tall_length], &free);
         }
@@ -52,4 +55,11 @@ fn corners(run: &mut Run, cell: &Listed) {
 
 fn add(run: &mut Run, kind: Kind, code: &[u8], book: &[Reservation]) {
     run.book_add_once(&Request { kind, code, flight: 1, start: 2, end: 3 }, book);
+}
+
+/// The code as a place's, which is looked up and led from.
+fn place(run: &mut Run, code: &[u8]) {
+    let book = made(&[cases::placed(b"here", code)]);
+    run.place(b"here", &book);
+    run.short_read(b"here-1A", &book, 20, 0);
 }

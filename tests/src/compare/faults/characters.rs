@@ -7,7 +7,7 @@ use hailgully_tests::slips;
 use hailgully_tests::space::TURNS;
 
 /// The codes that the calls read.
-const CODES: [&str; 8] = [
+const CODES: [&str; 9] = [
     "hg_plane_read code",
     "hg_space_read code",
     "hg_plane_box code",
@@ -16,6 +16,7 @@ const CODES: [&str; 8] = [
     "hg_reference_write target",
     "hg_book_add_plane code",
     "hg_book_add_space code",
+    "hg_short_read code",
 ];
 
 const ALL_GARBLED: &str = "answers 7 for every bad character of";
