@@ -101,7 +101,7 @@ static void some_minutes(uint32_t *start, uint32_t *end, int64_t least, int64_t 
 
 static hg_reservation record(uint32_t flight, apart kind) {
     uint32_t level = (uint32_t)between(6, 8), size = UINT32_C(4096) >> 3 * (level - 6);
-    hg_reservation r = {1, flight, level, TOWER_EAST, TOWER_NORTH, size, size, 0, HG_LAYER_GREATEST + 1, 0, DAY};
+    hg_reservation r = {1, flight, level, TOWER_EAST, TOWER_NORTH, size, size, HG_LAYER_LEAST, HG_LAYER_GREATEST - HG_LAYER_LEAST + 1, 0, DAY};
     r.west += (int32_t)(kind == LONGITUDES ? between(-DEGREE, DEGREE) : between(-NEAR, NEAR));
     r.south -= (int32_t)(kind == LONGITUDES ? size / 2 : between(-NEAR, NEAR));
     if (kind != LONGITUDES) some_minutes(&r.start, &r.end, kind == MINUTES ? DAY / 2 : 0, DAY);
@@ -110,6 +110,7 @@ static hg_reservation record(uint32_t flight, apart kind) {
 }
 
 static hg_booked add_plane(const input *i) { return hg_book_add_plane(i->code, i->length, HG_BOOK_MOST, i->start, i->end, book, HG_BOOK_MOST); }
+static hg_booked add_ground(const input *i) { return hg_book_add_ground(i->code, i->length, HG_BOOK_MOST, i->start, i->end, book, HG_BOOK_MOST); }
 static hg_booked add_space(const input *i) { return hg_book_add_space(i->code, i->length, HG_BOOK_MOST, i->start, i->end, book, HG_BOOK_MOST); }
 
 /* the book, with a row's first input, and what is asked of it */
@@ -134,6 +135,7 @@ static void ask(input *i, apart kind, void (*code)(input *), hg_booked (*add)(co
 static void ask_minutes(input *i) { ask(i, MINUTES, plane_code, add_plane); }
 static void ask_longitudes(input *i) { ask(i, LONGITUDES, plane_code, add_plane); }
 static void ask_mixed(input *i) { ask(i, SOMETHING, plane_code, add_plane); }
+static void ask_mixed_ground(input *i) { ask(i, SOMETHING, plane_code, add_ground); }
 static void ask_mixed_space(input *i) { ask(i, SOMETHING, space_code, add_space); }
 static void ask_release(input *i) { ask_mixed(i), book[LAST] = record(LAST, SOMETHING); }
 
@@ -209,6 +211,12 @@ static void book_add_plane(input *i) {
     book[LAST].live = 0;
 }
 
+static void book_add_ground(input *i) {
+    NOTE();
+    seen += hg_book_add_ground(i->code, i->length, HG_BOOK_MOST, i->start, i->end, book, HG_BOOK_MOST).refusal.number;
+    book[LAST].live = 0;
+}
+
 static void book_add_space(input *i) {
     NOTE();
     seen += hg_book_add_space(i->code, i->length, HG_BOOK_MOST, i->start, i->end, book, HG_BOOK_MOST).refusal.number;
@@ -271,6 +279,7 @@ static const struct {
     {"book add, minutes apart", ask_minutes, book_add_plane, SOME},
     {"book add, longitudes apart", ask_longitudes, book_add_plane, SOME},
     {"book add, mixed", ask_mixed, book_add_plane, SOME},
+    {"book add, ground, mixed", ask_mixed_ground, book_add_ground, SOME},
     {"book add, space code, mixed", ask_mixed_space, book_add_space, SOME},
     {"book release, the last", ask_release, book_release, SOME},
     {"place find, 1000 names", short_1000, place_find, SOME},

@@ -39,8 +39,8 @@ int main(void) {
     if (refused("reference", r.refusal)) return 1;
     printf("neighbour %.*s\n", (int)r.length, (const char *)reference);
 
-    /* The scheduler's book, in which nothing is live at first. Flight 7 holds the space cell, the minutes 600 to 659. Flight 8 asks for all layers above
-     * ground there: the board shows who holds them, and flight 8 gets them after that. Then flight 7 has landed. */
+    /* The scheduler's book, in which nothing is live at first. Flight 7 holds the space cell, the minutes 600 to 659. Flight 8 asks for all layers there:
+     * the board shows who holds them, and flight 8 gets them after that. Then flight 7 has landed. */
     static hg_reservation book[HG_BOOK_MOST];
     hg_booked seven = hg_book_add_space(line + 6, w.length, 7, 600, 660, book, HG_BOOK_MOST);
     if (refused("flight 7", seven.refusal)) return 1;
@@ -55,6 +55,20 @@ int main(void) {
     hg_booked landed = hg_book_release(7, book, HG_BOOK_MOST);
     if (refused("release", landed.refusal)) return 1;
     printf("flight 7: record %llu released\n", (unsigned long long)landed.at);
+
+    /* Flight 8 has the layers below ground too: flight 9 cannot slip under it in the valley. The ground vehicle 10 comes after flight 8 and holds the
+     * layers from the ground up alone: flight 9 gets those below it. */
+    uint8_t below[HG_SPACE_MOST];
+    w = hg_space_write(1, 6, at.longitude, at.latitude, -1000, below, sizeof below, 0);
+    if (refused("below ground", w.refusal)) return 1;
+    hg_booked nine = hg_book_add_space(below, w.length, 9, 660, 720, book, HG_BOOK_MOST);
+    if (nine.refusal.number == HG_CONFLICT) printf("flight 9: refused, flight %u holds every layer\n", (unsigned)book[nine.refusal.place].flight);
+    hg_booked ten = hg_book_add_ground(base, b.length, 10, 720, 780, book, HG_BOOK_MOST);
+    if (refused("vehicle 10", ten.refusal)) return 1;
+    nine = hg_book_add_space(below, w.length, 9, 720, 780, book, HG_BOOK_MOST);
+    if (refused("flight 9", nine.refusal)) return 1;
+    const hg_reservation *under = &book[nine.at];
+    printf("flight 9: under vehicle 10, layers %d to %lld\n", (int)under->floor, (long long)under->floor + under->thickness - 1);
 
     /* A polar survey's receiver prints 180 degrees east, 648,000 arc-seconds, and at the pole 90 degrees north. 180 is -180: a cell begins there. */
     const double north[] = {302400.5, 324000.0};

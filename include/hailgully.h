@@ -52,7 +52,7 @@ extern "C" {
 #endif
 
 #define HG_VERSION_MAJOR 0
-#define HG_VERSION_MINOR 7
+#define HG_VERSION_MINOR 8
 
 /* A refusal's number. */
 enum {
@@ -184,16 +184,22 @@ hg_units hg_arcseconds(double longitude, double latitude);
  * Example: N31A is west 0, south 0, width 21600, height 14400. */
 hg_box hg_plane_box(const uint8_t *code, size_t length);
 
-/* Adds a reservation to a book: a flight holds a plane code's cell, with layers 0 to 1887436799, for the minutes from start to end, the end not
- * included. The first record that is not live is used: it becomes this reservation, with live mark 1, and no other byte changes. Refusals, in order:
- * 19, 6, 7 or 20, 14, 15, 16, 17.
+/* Adds a reservation to a book: a flight holds a plane code's cell, with every layer of edition 1, -1887436800 to 1887436799, for the minutes from start
+ * to end, the end not included. The first record that is not live is used: it becomes this reservation, with live mark 1, and no other byte changes.
+ * Refusals, in order: 19, 6, 7 or 20, 14, 15, 16, 17.
  * Example: in a book of two zero records, flight 7 gets N31A from 600 to 660, at 0; then flight 8 and N31A00 from 659 to 700 are refused, 16 at place
  * 0, and from 660 to 700 they get it, at 1. */
 hg_booked hg_book_add_plane(const uint8_t *code, size_t code_length, uint32_t flight, uint32_t start, uint32_t end, hg_reservation *book, size_t length);
 
+/* The same for a ground vehicle: it holds the plane code's cell with the layers from the ground up alone, 0 to 1887436799, and leaves those below the
+ * ground free. Refusals, in order: 19, 6, 7 or 20, 14, 15, 16, 17.
+ * Example: where vehicle 7 holds N31A from 600 to 660 by this call, flight 9 gets the space code N131A63 for these minutes, since its layers, -29491200
+ * to -1, are below ground. */
+hg_booked hg_book_add_ground(const uint8_t *code, size_t code_length, uint32_t flight, uint32_t start, uint32_t end, hg_reservation *book, size_t length);
+
 /* The same with a space code of edition 1, whose cell has layers of its own. Refusals, in order: 19, 6, 7 or 20, 14, 15, 16, 17.
- * Example: where flight 7 holds N31A from 600 to 660, flight 9 gets N131A63 for these minutes, since its layers, -29491200 to -1, are below ground;
- * N031A00 is refused, 16. */
+ * Example: where flight 7 holds N131A63, layers -29491200 to -1, from 600 to 660, flight 9 gets N031A00 for these minutes, layers 0 to 29491199; and N31A
+ * by hg_book_add_plane is refused, 16. */
 hg_booked hg_book_add_space(const uint8_t *code, size_t code_length, uint32_t flight, uint32_t start, uint32_t end, hg_reservation *book, size_t length);
 
 /* Releases a flight: the live mark of the first live record with its number becomes 0, and no other byte changes. Refusals, in order: 19, 18.

@@ -75,17 +75,19 @@ static hg_reservation *lend_book(int arena, size_t n) {
 /* How long a book is: mostly short, or about as long as it may be. */
 static size_t book_length(void) { return (size_t)(dice() % 8 ? between(0, 4) : between(255, 256)); }
 
-/* Both adding calls with a code; one book in sixteen is too long. */
+/* Each adding call with a code, on a book of its own; one book in sixteen is too long. */
 static void adders(const uint8_t *c, size_t n) {
-    uint32_t flight = (uint32_t)between(0, 400), start = (uint32_t)between(0, 5), end = (uint32_t)between(0, 50);
-    int too_long = dice() % 16 == 0;
-    size_t length = too_long ? (size_t)between(257, 300) : book_length();
-    hg_reservation *book = lend_book(too_long ? LONG_BOOK : BOOK, length);
-    hg_booked plane = hg_book_add_plane(c, n, flight, start, end, book, length);
-    hg_booked space = hg_book_add_space(c, n, flight, start, end, book, length);
-    count(plane.refusal);
-    count(space.refusal);
-    booked += (plane.refusal.number == 0) + (space.refusal.number == 0);
+    static hg_booked (*const add[])(const uint8_t *, size_t, uint32_t, uint32_t, uint32_t, hg_reservation *, size_t) = {
+        hg_book_add_plane, hg_book_add_ground, hg_book_add_space};
+    for (size_t i = 0; i < sizeof add / sizeof add[0]; i++) {
+        uint32_t flight = (uint32_t)between(0, 400), start = (uint32_t)between(0, 5), end = (uint32_t)between(0, 50);
+        int too_long = dice() % 16 == 0;
+        size_t length = too_long ? (size_t)between(257, 300) : book_length();
+        hg_reservation *book = lend_book(too_long ? LONG_BOOK : BOOK, length);
+        hg_booked b = add[i](c, n, flight, start, end, book, length);
+        count(b.refusal);
+        booked += b.refusal.number == 0;
+    }
 }
 
 static void releaser(void) {

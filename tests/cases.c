@@ -1,4 +1,4 @@
-/* Document 01's cases P1 to P13, its run cases, the examples of source 000, clause 8.1, and document 02's Wishes 1, 2, 3, 5 and 6, asked of the
+/* Document 01's cases P1 to P13, its run cases, the examples of source 000, clause 8.1, and document 02's Wishes 1, 2, 3, 5, 6 and 7, asked of the
  * library as it is linked.
  * Prints each case that comes out otherwise, and last how many there were; fails if there was one.
  */
@@ -210,20 +210,25 @@ static void changed(const hg_reservation *before, hg_booked b, const char *what)
     held(well, what, "another change of the book");
 }
 
-static void add_plane(const char *code, uint32_t flight, uint32_t start, uint32_t end, size_t length, const char *wanted) {
+typedef hg_booked adder(const uint8_t *code, size_t code_length, uint32_t flight, uint32_t start, uint32_t end, hg_reservation *book, size_t length);
+static void add(adder *call, const char *code, uint32_t flight, uint32_t start, uint32_t end, size_t length, const char *wanted) {
     static hg_reservation before[RECORDS];
     memcpy(before, book, sizeof book);
-    hg_booked b = hg_book_add_plane((const uint8_t *)code, strlen(code), flight, start, end, book, length);
+    hg_booked b = call((const uint8_t *)code, strlen(code), flight, start, end, book, length);
     booked(b, code, wanted);
     changed(before, b, code);
 }
 
+static void add_plane(const char *code, uint32_t flight, uint32_t start, uint32_t end, size_t length, const char *wanted) {
+    add(hg_book_add_plane, code, flight, start, end, length, wanted);
+}
+
+static void add_ground(const char *code, uint32_t flight, uint32_t start, uint32_t end, size_t length, const char *wanted) {
+    add(hg_book_add_ground, code, flight, start, end, length, wanted);
+}
+
 static void add_space(const char *code, uint32_t flight, uint32_t start, uint32_t end, size_t length, const char *wanted) {
-    static hg_reservation before[RECORDS];
-    memcpy(before, book, sizeof book);
-    hg_booked b = hg_book_add_space((const uint8_t *)code, strlen(code), flight, start, end, book, length);
-    booked(b, code, wanted);
-    changed(before, b, code);
+    add(hg_book_add_space, code, flight, start, end, length, wanted);
 }
 
 static void release(uint32_t flight, size_t length, const char *wanted) {
@@ -248,19 +253,20 @@ static void record(size_t at, const char *wanted) {
 static void day(void) {
     memset(book, 0, sizeof book);
     add_plane("N31A", 7, 60, 120, 4, "at 0");
-    record(0, "1 7, 1 0 0 44236800 29491200, 0 1887436800, 60 120");
+    record(0, "1 7, 1 0 0 44236800 29491200, -1887436800 3774873600, 60 120");
     add_plane("N31A", 8, 120, 121, 4, "at 1"); /* begins when flight 7 ends */
     add_plane("N31A", 9, 0, 60, 4, "at 2");    /* ends when it begins */
     release(9, 4, "at 2");
-    record(2, "0 9, 1 0 0 44236800 29491200, 0 1887436800, 0 60");
+    record(2, "0 9, 1 0 0 44236800 29491200, -1887436800 3774873600, 0 60");
     add_plane("N31A00", 9, 119, 121, 4, "refused 16 0 1");
     add_plane("N31A00", 9, 120, 121, 4, "refused 16 1 1");
     add_plane("N32A", 9, 60, 121, 4, "at 2"); /* touches in the east */
     add_plane("N31B", 9, 60, 121, 4, "refused 15 0 1");
     add_plane("N31B", 10, 60, 121, 4, "at 3"); /* touches in the north */
     release(10, 4, "at 3");
-    add_space("N131A63", 10, 60, 121, 4, "at 3"); /* touches from below: layers -29491200 to -1 */
-    record(3, "1 10, 1 0 0 44236800 29491200, -29491200 29491200, 60 121");
+    add_space("N131A63", 10, 60, 121, 4, "refused 16 0 1"); /* layers -29491200 to -1, which flight 7 has too */
+    add_space("N131B63", 10, 60, 121, 4, "at 3");
+    record(3, "1 10, 1 0 29491200 44236800 29491200, -29491200 29491200, 60 121");
     add_space("N031A00", 11, 60, 61, 4, "refused 16 0 1");
     add_plane("S31A", 11, 60, 61, 4, "refused 17 0 1");
     release(7, 4, "at 0");
@@ -268,38 +274,39 @@ static void day(void) {
     add_plane("N31A00", 12, 120, 121, 4, "refused 16 1 1"); /* the first record is not live, and counts */
     add_space("N031A00", 11, 60, 61, 4, "at 0");
     record(0, "1 11, 1 0 0 44236800 29491200, 0 29491200, 60 61");
-    add_space("N131A630070100E00E01007007007007", 12, 60, 61, 4, "refused 16 3 1"); /* layer -1 */
+    add_space("N131B630070100E00E01007007007007", 12, 60, 61, 4, "refused 16 3 1"); /* layer -1 */
 }
 
-/* Each refusal of the book where those after it apply too; books of 256 and 257 records; records that name nothing. */
-static void refusals(void) {
+/* Each refusal of the book, with a call that adds by plane code, where those after it apply too; books of 256 and 257 records; records that name
+ * nothing. */
+static void refusals(adder *column) {
     memset(book, 0, sizeof book);
     for (uint32_t i = 0; i < RECORDS; i++) {
         book[i].live = i % 2 ? 1 : UINT32_MAX;
         book[i].flight = i;
     }
-    add_plane("n31A0", 3, 1, 1, RECORDS, "refused 19 0 1");
+    add(column, "n31A0", 3, 1, 1, RECORDS, "refused 19 0 1");
     add_space("n31A0", 3, 1, 1, RECORDS, "refused 19 0 1");
     release(3, RECORDS, "refused 19 0 1");
     release(999, RECORDS, "refused 19 0 1");
-    add_plane("n31A0", 3, 1, 1, MOST, "refused 6 0 1");
+    add(column, "n31A0", 3, 1, 1, MOST, "refused 6 0 1");
     add_space("n031A0", 3, 1, 1, MOST, "refused 6 0 1");
-    add_plane("N00A", 3, 1, 1, MOST, "refused 20 3 1");
+    add(column, "N00A", 3, 1, 1, MOST, "refused 20 3 1");
     add_space("N031A64", 3, 1, 1, MOST, "refused 20 6 1");
     add_space("N031A000000000F", 3, 1, 1, MOST, "refused 20 14 1"); /* a code of edition 2 */
-    add_plane("N31A", 3, 1, 1, MOST, "refused 14 0 1");
-    add_plane("N31A", 3, UINT32_MAX, 0, MOST, "refused 14 0 1");
-    add_plane("N31A", 3, 1, 2, MOST, "refused 15 0 1");
-    add_plane("N31A", 999, 1, 2, MOST, "refused 17 0 1");
+    add(column, "N31A", 3, 1, 1, MOST, "refused 14 0 1");
+    add(column, "N31A", 3, UINT32_MAX, 0, MOST, "refused 14 0 1");
+    add(column, "N31A", 3, 1, 2, MOST, "refused 15 0 1");
+    add(column, "N31A", 999, 1, 2, MOST, "refused 17 0 1");
     release(999, MOST, "refused 18 0 1");
     release(255, MOST, "at 255");
-    add_plane("N31A", 255, 1, 2, MOST, "at 255");
-    add_plane("N31A", 999, 1, 2, MOST, "refused 16 255 1"); /* before 17 */
-    add_plane("N31A", 255, 1, 2, MOST, "refused 15 0 1");   /* before 16 */
-    add_plane("N31A", 999, 1, 2, 0, "refused 17 0 1");
+    add(column, "N31A", 255, 1, 2, MOST, "at 255");
+    add(column, "N31A", 999, 1, 2, MOST, "refused 16 255 1"); /* before 17 */
+    add(column, "N31A", 255, 1, 2, MOST, "refused 15 0 1");   /* before 16 */
+    add(column, "N31A", 999, 1, 2, 0, "refused 17 0 1");
     release(255, 0, "refused 18 0 1");
     book[5].live = book[6].live = 0;
-    add_plane("N30A", 999, 1, 2, MOST, "at 5");
+    add(column, "N30A", 999, 1, 2, MOST, "at 5");
     book[9].flight = 7;
     book[7].live = 2;
     release(7, MOST, "at 7");
@@ -335,8 +342,6 @@ static void globe(void) {
         {0, UINT32_MAX, INT32_MIN, 1, 0, 1, "at 1"}, /* far outside the globe */
         {0, UINT32_MAX, 29491200, UINT32_MAX, -5, UINT32_MAX, "at 1"}, /* all that is north of N01A */
         {0, UINT32_MAX, 29491199, UINT32_MAX, -5, UINT32_MAX, "refused 16 0 1"},
-        {0, UINT32_MAX, 0, 1, INT32_MIN, 2147483648u, "at 1"}, /* all below ground */
-        {0, UINT32_MAX, 0, 1, INT32_MIN, 2147483649u, "refused 16 0 1"},
     };
     for (size_t i = 0; i < sizeof lent / sizeof lent[0]; i++) {
         memset(book, 0, sizeof book);
@@ -347,6 +352,85 @@ static void globe(void) {
     book[0].start = 60;
     book[0].end = 50; /* no minute, no conflict */
     add_plane("N01A", 2, 0, 100, 2, "at 1");
+}
+
+/* Two codes, one after the other, behind a record of another cell: what the second of them gets; and in the other order. */
+static void after(adder *one, const char *first, adder *other, const char *second, const char *wanted) {
+    memset(book, 0, sizeof book);
+    add_plane("N32A", 1, 60, 120, 4, "at 0");
+    add(one, first, 2, 60, 120, 4, "at 1");
+    add(other, second, 3, 60, 120, 4, wanted);
+}
+
+static void both_orders(adder *one, const char *first, adder *other, const char *second, const char *wanted) {
+    after(one, first, other, second, wanted);
+    after(other, second, one, first, wanted);
+}
+
+/* What a call gets beside a live record over the whole globe with these layers. */
+static void beside(uint32_t live, int32_t floor, uint32_t thickness, adder *call, const char *code, const char *wanted) {
+    hg_reservation r = {live, 9, 1, 0, INT32_MIN, UINT32_MAX, UINT32_MAX, floor, thickness, 0, UINT32_MAX};
+    memset(book, 0, sizeof book);
+    book[1] = r;
+    add(call, code, 2, 60, 120, 2, wanted);
+}
+
+/* Wish 7: a plane code holds every layer of edition 1, and in the ground call those from 0 up; records that were live before stay as they are. */
+static void columns(void) {
+    static const char *const over[] = {
+        "N131A00", /* the lowest layers of edition 1, those just below ground, just above it, and the highest */
+        "N131A63",
+        "N031A00",
+        "N031A63",
+        "N131A000000000000000000000000000", /* layers -1887436800, -1, 0 and 1887436799 */
+        "N131A630070100E00E01007007007007",
+        "N031A000000000000000000000000000",
+        "N031A630070100E00E01007007007007",
+    };
+    static const uint32_t marks[] = {1, 2, 0x80000000u, UINT32_MAX};
+    for (size_t i = 0; i < sizeof over / sizeof over[0]; i++) {
+        int below = over[i][1] == '1';
+        both_orders(hg_book_add_plane, "N31A", hg_book_add_space, over[i], "refused 16 1 1");
+        both_orders(hg_book_add_plane, "N31B", hg_book_add_space, over[i], "at 2"); /* touches in the north */
+        both_orders(hg_book_add_ground, "N31A", hg_book_add_space, over[i], below ? "at 2" : "refused 16 1 1");
+        for (size_t j = 0; j < sizeof marks / sizeof marks[0]; j++)
+            beside(marks[j], 0, 1887436800, hg_book_add_space, over[i], below ? "at 0" : "refused 16 1 1"); /* live before the wish */
+    }
+    for (size_t j = 0; j < sizeof marks / sizeof marks[0]; j++) {
+        beside(marks[j], 0, 1887436800, hg_book_add_plane, "N31A", "refused 16 1 1");
+        beside(marks[j], 0, 1887436800, hg_book_add_ground, "N31A", "refused 16 1 1");
+    }
+    both_orders(hg_book_add_plane, "N31A", hg_book_add_plane, "N31A00", "refused 16 1 1");
+    both_orders(hg_book_add_plane, "N31A", hg_book_add_ground, "N31A00", "refused 16 1 1");
+    both_orders(hg_book_add_ground, "N31A", hg_book_add_plane, "N31A00", "refused 16 1 1");
+    both_orders(hg_book_add_ground, "N31A", hg_book_add_ground, "N31A00", "refused 16 1 1");
+    after(hg_book_add_plane, "N30A", hg_book_add_ground, "N31A", "at 2");
+    record(1, "1 2, 1 -44236800 0 44236800 29491200, -1887436800 3774873600, 60 120");
+    record(2, "1 3, 1 0 0 44236800 29491200, 0 1887436800, 60 120");
+    static const struct { int32_t floor; uint32_t thickness; const char *whole, *from_ground; } lent[] = {
+        {INT32_MIN, 260046848u, "at 0", "at 0"}, /* up to layer -1887436801 */
+        {INT32_MIN, 260046849u, "refused 16 1 1", "at 0"},
+        {INT32_MIN, 2147483648u, "refused 16 1 1", "at 0"}, /* up to layer -1 */
+        {INT32_MIN, 2147483649u, "refused 16 1 1", "refused 16 1 1"},
+        {INT32_MIN, UINT32_MAX, "refused 16 1 1", "refused 16 1 1"},
+        {-1887436801, 1, "at 0", "at 0"},
+        {-1887436800, 0, "at 0", "at 0"},
+        {-1887436800, 1, "refused 16 1 1", "at 0"},
+        {-1887436800, 3774873600u, "refused 16 1 1", "refused 16 1 1"},
+        {-1, 1, "refused 16 1 1", "at 0"},
+        {-1, UINT32_MAX, "refused 16 1 1", "refused 16 1 1"}, /* ends past 32 bits with a sign */
+        {1887436799, 1, "refused 16 1 1", "refused 16 1 1"},
+        {1887436799, UINT32_MAX, "refused 16 1 1", "refused 16 1 1"}, /* ends past 32 bits */
+        {1887436800, 1, "at 0", "at 0"},
+        {1887436800, 520093697u, "at 0", "at 0"},  /* would end at layer -1887436800 in 32 bits */
+        {1887436800, 2407530497u, "at 0", "at 0"}, /* at layer 0 */
+        {1887436800, UINT32_MAX, "at 0", "at 0"},
+        {INT32_MAX, UINT32_MAX, "at 0", "at 0"},
+    };
+    for (size_t i = 0; i < sizeof lent / sizeof lent[0]; i++) {
+        beside(1, lent[i].floor, lent[i].thickness, hg_book_add_plane, "N31A", lent[i].whole);
+        beside(1, lent[i].floor, lent[i].thickness, hg_book_add_ground, "N31A", lent[i].from_ground);
+    }
 }
 
 /* The refusal of a plane code, "refused number place", and of its box. */
@@ -420,6 +504,8 @@ static void kinds(void) {
     memset(book, 0, sizeof book);
     add_plane("N61A", 3, 1, 1, MOST, "refused 20 2 1"); /* before 14 */
     add_plane("N6-A", 3, 1, 1, MOST, "refused 7 2 1");
+    add_ground("N61A", 3, 1, 1, MOST, "refused 20 2 1");
+    add_ground("N6-A", 3, 1, 1, MOST, "refused 7 2 1");
     add_space("N031AV-", 3, 1, 1, MOST, "refused 20 5 1");
     add_space("N031A-V", 3, 1, 1, MOST, "refused 7 5 1");
     add_plane("N61A", 3, 1, 1, RECORDS, "refused 19 0 1");
@@ -610,8 +696,10 @@ int main(void) {
     editions();
     ends();
     day();
-    refusals();
+    refusals(hg_book_add_plane);
+    refusals(hg_book_add_ground);
     globe();
+    columns();
     kinds();
     names();
     short_codes();

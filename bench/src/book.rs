@@ -1,7 +1,7 @@
 //! The reservation book: adding to a book of 256 records, and releasing its last one. Each call walks the whole book: either every record is live,
 //! which is refused (17), or all but the last, which is used; and nothing that is asked for is in conflict, but in the one row that says so.
 
-use crate::book_inputs::{self as books, plane_ours, space_ours, Ask, Book, Ours, LAST};
+use crate::book_inputs::{self as books, ground_ours, plane_ours, space_ours, Ask, Book, Ours, LAST};
 use crate::inputs::{many, Code, Dice, Position};
 use crate::table::{Pass, Row};
 use crate::{plain, plain_book};
@@ -16,6 +16,10 @@ type Plain = fn(&Ask, &mut [HgReservation]) -> Result<usize, plain::Refusal>;
 
 fn plane_plain(a: &Ask, book: &mut [HgReservation]) -> Result<usize, plain::Refusal> {
     plain_book::add_plane(a.code.text(), a.flight, a.start, a.end, book)
+}
+
+fn ground_plain(a: &Ask, book: &mut [HgReservation]) -> Result<usize, plain::Refusal> {
+    plain_book::add_ground(a.code.text(), a.flight, a.start, a.end, book)
 }
 
 fn space_plain(a: &Ask, book: &mut [HgReservation]) -> Result<usize, plain::Refusal> {
@@ -65,7 +69,7 @@ fn same_odd(dice: &mut Dice) {
         let p = Position { layer: dice.between(-500, 500), ..Position::ordinary(dice, level) };
         let (flight, start, end) = (dice.between(0, 40) as u32, dice.between(0, 300) as u32, dice.between(0, 300) as u32);
         let plane: (Code, Ours, Plain) = (Code::plane(&p), plane_ours, plane_plain);
-        for (code, ours, other) in [plane, (Code::space(&p), space_ours, space_plain)] {
+        for (code, ours, other) in [plane, (plane.0, ground_ours, ground_plain), (Code::space(&p), space_ours, space_plain)] {
             let a = Ask { code, flight, start, end };
             same_one(&a, &book, ours, other);
             same_one(&Ask { code: code.spoilt(dice), ..a }, &book, ours, other);
@@ -99,6 +103,7 @@ pub fn rows(dice: &mut Dice) -> Vec<Row> {
         (books::of_the_board(dice, &board, Code::plane, plane_ours), books::of_the_board(dice, &board, Code::space, space_ours));
     let conflict = books::in_conflict(dice, &board);
     let last = many(|| Ask { flight: LAST as u32, ..mixed[0] });
+    same(mixed, &free, ground_ours, ground_plain);
     same(spaces, &free, space_ours, space_plain);
     same(conflict, &board, plane_ours, plane_plain);
     same(last, &board, release_ours, release_plain);
@@ -107,6 +112,8 @@ pub fn rows(dice: &mut Dice) -> Vec<Row> {
     rows.extend(plane_rows("squares apart", books::squares_apart(dice)));
     rows.extend(plane_rows("longitudes apart", books::longitudes_apart(dice)));
     rows.extend(plane_rows("mixed", (board.clone(), mixed)));
+    // what is free over all layers is free from the ground up
+    rows.push(Row::plain("book add, ground, mixed", pass(mixed, &free, ground_ours), pass(mixed, &free, ground_plain), BAR));
     rows.push(Row::plain("book add, space code, mixed", pass(spaces, &free, space_ours), pass(spaces, &free, space_plain), BAR));
     rows.push(Row::plain("book add, the first in conflict", pass(conflict, &board, plane_ours), pass(conflict, &board, plane_plain), BAR));
     rows.push(Row::plain("book release, the last", pass(last, &board, release_ours), pass(last, &board, release_plain), RELEASE_BAR));

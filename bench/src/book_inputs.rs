@@ -22,6 +22,10 @@ pub fn plane_ours(a: &Ask, book: &mut [HgReservation]) -> HgBooked {
     ffi::book_add_plane(a.code.text(), a.flight, a.start, a.end, book)
 }
 
+pub fn ground_ours(a: &Ask, book: &mut [HgReservation]) -> HgBooked {
+    ffi::book_add_ground(a.code.text(), a.flight, a.start, a.end, book)
+}
+
 pub fn space_ours(a: &Ask, book: &mut [HgReservation]) -> HgBooked {
     ffi::book_add_space(a.code.text(), a.flight, a.start, a.end, book)
 }
@@ -156,7 +160,7 @@ pub fn odd(dice: &mut Dice) -> HgReservation {
 }
 
 /// The record moved along one side by its own size, or by one more or less, so that it touches where it was, or just does not, or shares the last of
-/// it; or with no width.
+/// it; or with no width. One that is moved up or down gets a hundred layers: below all layers there is no room for as many.
 pub fn beside(dice: &mut Dice, r: HgReservation) -> HgReservation {
     let (more, way) = (dice.between(-1, 1), 1 - 2 * dice.between(0, 1));
     let by = |size: u32| way * (size as i64 + more);
@@ -164,7 +168,7 @@ pub fn beside(dice: &mut Dice, r: HgReservation) -> HgReservation {
     match dice.between(0, 4) {
         0 => HgReservation { west: (r.west as i64 + by(r.width)) as i32, ..r },
         1 => HgReservation { south: (r.south as i64 + by(r.height)) as i32, ..r },
-        2 => HgReservation { floor: (r.floor as i64 + by(r.thickness)) as i32, ..r },
+        2 => HgReservation { floor: (r.floor as i64 + by(if way > 0 { r.thickness } else { 100 })) as i32, thickness: 100, ..r },
         3 => HgReservation { width: 0, ..r },
         _ => HgReservation { start: (r.start as i64 + minutes) as u32, end: (r.end as i64 + minutes) as u32, ..r },
     }

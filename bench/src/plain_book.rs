@@ -67,15 +67,32 @@ fn add(asked: HgReservation, book: &mut [HgReservation]) -> Result<usize, Refusa
     Ok(free)
 }
 
-#[inline(never)]
-pub fn add_plane(code: &[u8], flight: u32, start: u32, end: u32, book: &mut [HgReservation]) -> Result<usize, Refusal> {
+/// By plane code, over so many layers from a floor on.
+#[inline(always)]
+fn add_over(
+    (floor, thickness): (i32, u32),
+    code: &[u8],
+    flight: u32,
+    start: u32,
+    end: u32,
+    book: &mut [HgReservation],
+) -> Result<usize, Refusal> {
     if book.len() > MOST {
         return refuse(19);
     }
     let c = read(code)?;
     let (west, south, width, height) = (c.west, c.south, c.width, c.height);
-    let (floor, thickness) = (0, 1_887_436_800);
     add(HgReservation { live: 1, flight, level: c.level, west, south, width, height, floor, thickness, start, end }, book)
+}
+
+#[inline(never)]
+pub fn add_plane(code: &[u8], flight: u32, start: u32, end: u32, book: &mut [HgReservation]) -> Result<usize, Refusal> {
+    add_over((-1_887_436_800, 3_774_873_600), code, flight, start, end, book)
+}
+
+#[inline(never)]
+pub fn add_ground(code: &[u8], flight: u32, start: u32, end: u32, book: &mut [HgReservation]) -> Result<usize, Refusal> {
+    add_over((0, 1_887_436_800), code, flight, start, end, book)
 }
 
 #[inline(never)]

@@ -1,18 +1,21 @@
-//! The reservation book (Wish 3 of document 02). What a record names is kept as
-//! half-open ranges of whole numbers, its longitudes as at most two of them
-//! within one turn, and records conflict when ranges meet on every side;
+//! The reservation book (Wishes 3 and 7 of document 02). What a record names is
+//! kept as half-open ranges of whole numbers, its longitudes as at most two of
+//! them within one turn, and records conflict when ranges meet on every side;
 //! `plain` has the same by other means. Of a call all refusals that apply are
 //! gathered first, each for itself, and the order then picks one.
 
+mod kinds;
 pub mod plain;
 
 #[cfg(test)]
 mod worked;
 
-use crate::plane::{self, SOUTH, TURN};
+pub use kinds::Kind;
+
+use crate::plane::{SOUTH, TURN};
 use crate::refusals::{first, refusal, Refusal};
 use crate::slips;
-use crate::space::{self, Edition, SpaceCell};
+use crate::space::SpaceCell;
 use std::ops::Range;
 
 /// "A slice of records that the scheduler lends, at most 256."
@@ -32,13 +35,6 @@ pub struct Reservation {
     pub cell: SpaceCell,
     pub start: u32,
     pub end: u32,
-}
-
-/// "One call adds by plane code and another by space code of edition 1."
-#[derive(Clone, Copy, Debug, PartialEq, Eq)]
-pub enum Kind {
-    Plane,
-    Space,
 }
 
 /// What an adding call is asked.
@@ -131,7 +127,11 @@ impl Reservation {
     }
 
     fn layers(&self) -> Range<i64> {
-        range(self.cell.floor, self.cell.thickness)
+        let SpaceCell { floor, thickness, .. } = self.cell;
+        match slips::current() {
+            slips::SIGNED_THICKNESS => i64::from(floor)..i64::from(floor) + i64::from(thickness as i32),
+            _ => range(floor, thickness),
+        }
     }
 
     fn minutes(&self) -> Range<i64> {
@@ -152,38 +152,24 @@ impl Reservation {
             && pieces_meet(&self.longitudes(), &other.longitudes())
             && !other_level
     }
-}
 
-impl Kind {
-    pub const BOTH: [Kind; 2] = [Kind::Plane, Kind::Space];
-
-    /// Refusals 6, 7 or 20. "A plane code stands for layers 0 to 1,887,436,799."
-    pub fn cell(self, code: &[u8]) -> Result<SpaceCell, Refusal> {
-        let (floor, thickness) = match slips::current() {
-            slips::COLUMN_SHORT => (0, 1_887_436_799),
-            slips::COLUMN_FROM_BELOW => (-1_887_436_800, 3_774_873_600),
-            _ => (0, 1_887_436_800),
+    /// "Records already live are taken as they stand."
+    fn as_it_stands(&self) -> Reservation {
+        let layers = (self.cell.floor, self.cell.thickness);
+        let taken = match slips::current() {
+            slips::OLD_COLUMNS_GROW if Kind::Ground.column() == Some(layers) => Kind::Plane.column(),
+            slips::COLUMNS_SHRINK if Kind::Plane.column() == Some(layers) => Kind::Ground.column(),
+            _ => None,
         };
-        let edition = if slips::on(slips::BOOK_OF_EDITION_2) { 2 } else { 1 };
-        match self {
-            Kind::Plane => plane::read(code).map(|plane| SpaceCell { plane, floor, thickness }),
-            Kind::Space => space::read(edition, code),
-        }
-    }
-
-    /// The refusal of the first bad character, whatever the length.
-    fn bad(self, code: &[u8]) -> Option<Refusal> {
-        match self {
-            Kind::Plane => plane::bad(code),
-            Kind::Space => space::bad(Edition::Ours, code),
-        }
+        let (floor, thickness) = taken.unwrap_or(layers);
+        Reservation { cell: SpaceCell { floor, thickness, ..self.cell }, ..*self }
     }
 }
 
 /// "16, conflict, with the first conflicting record's place."
 fn conflict(record: &Reservation, book: &[Reservation]) -> Option<Refusal> {
     let live = |other: &Reservation| other.is_live() || slips::on(slips::DEAD_RECORDS_CONFLICT);
-    let conflicting = |other: &Reservation| live(other) && record.conflicts(other);
+    let conflicting = |other: &Reservation| live(other) && record.conflicts(&other.as_it_stands());
     let place = match slips::current() {
         slips::LAST_CONFLICT => book.iter().rposition(conflicting)?,
         slips::PLACE_AMONG_LIVE => book.iter().filter(|other| live(other)).position(conflicting)?,
@@ -218,7 +204,7 @@ impl Request<'_> {
         if book.iter().any(|record| record.is_live_with(self.flight)) {
             list.push(refusal(15));
         }
-        list.extend(cell.ok().and_then(|cell| conflict(&self.record(cell), book)));
+        list.extend(cell.ok().and_then(|cell| conflict(&self.tried(cell), book)));
         if book.iter().all(Reservation::is_live) {
             list.push(refusal(17));
         }
@@ -227,6 +213,19 @@ impl Request<'_> {
 
     fn record(&self, cell: SpaceCell) -> Reservation {
         Reservation { live: 1, flight: self.flight, cell, start: self.start, end: self.end }
+    }
+
+    /// The record as it is held against the book.
+    fn tried(&self, cell: SpaceCell) -> Reservation {
+        let mut record = self.record(cell);
+        let (floor, thickness) = (&mut record.cell.floor, &mut record.cell.thickness);
+        match (self.kind, slips::current()) {
+            (Kind::Plane, slips::TRIED_WITHOUT_HIGHEST) => *thickness -= 1,
+            (Kind::Plane, slips::TRIED_WITHOUT_LOWEST) => (*floor, *thickness) = (*floor + 1, *thickness - 1),
+            (Kind::Plane, slips::TRIED_FROM_GROUND) => (*floor, *thickness) = Kind::Ground.column().expect("a plane code has a column"),
+            _ => {}
+        }
+        record
     }
 
     /// "Adding uses the first record not live."

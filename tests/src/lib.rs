@@ -1,5 +1,5 @@
-//! The oracle: document 01, and of document 02 Wishes 1, 2, 3, 5 and 6, written a
-//! second time, from the documents alone. Wish 4 changes no answer.
+//! The oracle: document 01, and of document 02 Wishes 1, 2, 3, 5, 6 and 7, written
+//! a second time, from the documents alone. Wish 4 changes no answer.
 //!
 //! Plane codes stand here twice. `plane::listing` lists every cell that a cell
 //! is divided into, just as the document describes them, and looks for the one

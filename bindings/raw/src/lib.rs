@@ -80,6 +80,15 @@ extern "C" {
         book: *mut HgReservation,
         length: usize,
     ) -> HgBooked;
+    pub fn hg_book_add_ground(
+        code: *const u8,
+        code_length: usize,
+        flight: u32,
+        start: u32,
+        end: u32,
+        book: *mut HgReservation,
+        length: usize,
+    ) -> HgBooked;
     pub fn hg_book_add_space(
         code: *const u8,
         code_length: usize,
@@ -151,6 +160,11 @@ pub mod lent {
     #[inline(always)]
     pub fn book_add_plane(code: &[u8], flight: u32, start: u32, end: u32, book: &mut [HgReservation]) -> HgBooked {
         unsafe { crate::hg_book_add_plane(code.as_ptr(), code.len(), flight, start, end, book.as_mut_ptr(), book.len()) }
+    }
+
+    #[inline(always)]
+    pub fn book_add_ground(code: &[u8], flight: u32, start: u32, end: u32, book: &mut [HgReservation]) -> HgBooked {
+        unsafe { crate::hg_book_add_ground(code.as_ptr(), code.len(), flight, start, end, book.as_mut_ptr(), book.len()) }
     }
 
     #[inline(always)]

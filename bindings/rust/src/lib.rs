@@ -366,17 +366,20 @@ pub fn plane_box(code: &[u8]) -> Result<ArcBox, Refusal> {
     answer(b.refusal, ArcBox { west: b.west, south: b.south, width: b.width, height: b.height })
 }
 
-/// Adds a reservation to a book: a flight holds a plane code's cell, with layers 0 to 1,887,436,799, for the minutes from `start` to `end`,
-/// the end not included. The first record that is not live becomes this one; its place. Refusals, in order: 19, 6, 7 or 20, 14, 15, 16, 17.
+/// Adds a reservation to a book: a flight holds a plane code's cell, with every layer of edition 1, -1,887,436,800 to 1,887,436,799, for
+/// the minutes from `start` to `end`, the end not included. The first record that is not live becomes this one; its place. Refusals, in
+/// order: 19, 6, 7 or 20, 14, 15, 16, 17.
 ///
 /// ```
-/// use hailgully::{book_add_plane, Reason, Reservation};
+/// use hailgully::{book_add_plane, book_add_space, Reason, Reservation};
 /// let mut book = [Reservation::default(); 2];
 /// assert_eq!(book_add_plane(b"N31A", 7, 600, 660, &mut book), Ok(0));
-/// assert_eq!((book[0].live, book[0].flight, book[0].floor, book[0].thickness), (1, 7, 0, 1_887_436_800));
+/// assert_eq!((book[0].live, book[0].flight, book[0].floor, book[0].thickness), (1, 7, -1_887_436_800, 3_774_873_600));
 /// // N31A00 lies in N31A: the last minute that flight 7 holds is 659.
 /// let refusal = book_add_plane(b"N31A00", 8, 659, 700, &mut book).unwrap_err();
 /// assert_eq!((refusal.reason, refusal.place), (Reason::Conflict, Some(0)));
+/// // Nor is it free below ground: N131A63 is layers -29,491,200 to -1 of N31A.
+/// assert_eq!(book_add_space(b"N131A63", 8, 659, 700, &mut book).unwrap_err().reason, Reason::Conflict);
 /// assert_eq!(book[1], Reservation::default());
 /// assert_eq!(book_add_plane(b"N31A00", 8, 660, 700, &mut book), Ok(1));
 /// assert_eq!(book_add_plane(b"N31A01", 9, 660, 700, &mut book).unwrap_err().to_string(), "refused 17: every record is live");
@@ -385,16 +388,32 @@ pub fn book_add_plane(code: &[u8], flight: u32, start: u32, end: u32, book: &mut
     booked(raw::lent::book_add_plane(code, flight, start, end, book))
 }
 
+/// The same for a ground vehicle: it holds the plane code's cell with the layers from the ground up alone, 0 to 1,887,436,799, and leaves
+/// those below the ground free. Refusals, in order: 19, 6, 7 or 20, 14, 15, 16, 17.
+///
+/// ```
+/// use hailgully::{book_add_ground, book_add_space, Reason, Reservation};
+/// let mut book = [Reservation::default(); 2];
+/// assert_eq!(book_add_ground(b"N31A", 7, 600, 660, &mut book), Ok(0));
+/// assert_eq!((book[0].floor, book[0].thickness), (0, 1_887_436_800));
+/// // Layers 0 to 29,491,199 of the same sheet; then layers -29,491,200 to -1, below ground.
+/// assert_eq!(book_add_space(b"N031A00", 9, 600, 660, &mut book).unwrap_err().reason, Reason::Conflict);
+/// assert_eq!(book_add_space(b"N131A63", 9, 600, 660, &mut book), Ok(1));
+/// ```
+pub fn book_add_ground(code: &[u8], flight: u32, start: u32, end: u32, book: &mut [Reservation]) -> Result<usize, Refusal> {
+    booked(raw::lent::book_add_ground(code, flight, start, end, book))
+}
+
 /// The same with a space code of edition 1, whose cell has layers of its own. Refusals, in order: 19, 6, 7 or 20, 14, 15, 16, 17.
 ///
 /// ```
 /// use hailgully::{book_add_plane, book_add_space, Reason, Reservation};
 /// let mut book = [Reservation::default(); 2];
-/// assert_eq!(book_add_plane(b"N31A", 7, 600, 660, &mut book), Ok(0));
-/// // Layers 0 to 29,491,199 of the same sheet; then layers -29,491,200 to -1, below ground.
-/// assert_eq!(book_add_space(b"N031A00", 9, 600, 660, &mut book).unwrap_err().reason, Reason::Conflict);
-/// assert_eq!(book_add_space(b"N131A63", 9, 600, 660, &mut book), Ok(1));
-/// assert_eq!((book[1].floor, book[1].thickness), (-29_491_200, 29_491_200));
+/// assert_eq!(book_add_space(b"N131A63", 7, 600, 660, &mut book), Ok(0));
+/// assert_eq!((book[0].floor, book[0].thickness), (-29_491_200, 29_491_200));
+/// // The same sheet with every layer; then its layers 0 to 29,491,199.
+/// assert_eq!(book_add_plane(b"N31A", 9, 600, 660, &mut book).unwrap_err().reason, Reason::Conflict);
+/// assert_eq!(book_add_space(b"N031A00", 9, 600, 660, &mut book), Ok(1));
 /// ```
 pub fn book_add_space(code: &[u8], flight: u32, start: u32, end: u32, book: &mut [Reservation]) -> Result<usize, Refusal> {
     booked(raw::lent::book_add_space(code, flight, start, end, book))

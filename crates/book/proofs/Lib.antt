@@ -6,3 +6,4 @@ pub mod Carrying
 pub mod Reasons
 pub mod Safe
 pub mod Theorems
+pub mod Held

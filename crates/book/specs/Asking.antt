@@ -3,11 +3,11 @@
 use mathlib.Core.List.{List}
 use Prim.Native.Nat.{ℕ}
 use lib.Dec.{ltb}
-use lib.IntN.{pos}
+use lib.IntN.{ℤ, pos}
 use Rattle.grid.specs.declared.Cell.{Cell}
 use Rattle.grid.specs.declared.SpaceCell.{SpaceCell}
 use Rattle.grid.specs.Answers.{Answer, accepted, refused, refusal, unless, andThen}
-use Rattle.grid.specs.Layers.{ours, product}
+use Rattle.grid.specs.Layers.{ours, product, all, floorOf, thicknessOf}
 use Rattle.grid.specs.Plane.{cellOf}
 use Rattle.grid.specs.Space.{spaceCellOf}
 use Rattle.reservations.specs.declared.Reservation.{Reservation}
@@ -28,9 +28,17 @@ nothingOf flight = record {
 abbrev pub blank : Reservation
 blank = nothingOf 0
 
--- a plane code's cell over the layers that it stands for: 0 to 1,887,436,799, all of edition 1 from the ground up
+-- a cell over so many layers from a floor on
+abbrev pub over : ℤ → ℕ → Cell → SpaceCell
+over floor n c = record { cell = c; floor = floor; thickness = n }
+
+-- a plane code's cell over the layers that it stands for: all of edition 1, -1,887,436,800 to 1,887,436,799
 abbrev pub column : Cell → SpaceCell
-column c = record { cell = c; floor = pos 0; thickness = product ours }
+column c = over (floorOf (product ours) all) (thicknessOf (product ours) all) c
+
+-- what it stands for in the ground call: those from the ground up, 0 to 1,887,436,799
+abbrev pub groundColumn : Cell → SpaceCell
+groundColumn c = over (pos 0) (product ours) c
 
 -- 14 where the start is not before the end, else a live record of the flight, the space cell and the minutes
 abbrev pub reserved : ℕ → ℕ → ℕ → SpaceCell → Answer Reservation
@@ -40,6 +48,10 @@ reserved flight start end s =
 -- by plane code: 6, 7 or 20, 14, else the record of its cell over its layers
 unfoldable pub planeRecord : List ℕ → ℕ → ℕ → ℕ → Answer Reservation
 planeRecord code flight start end = andThen (cellOf code) (λ c. reserved flight start end (column c))
+
+-- by plane code from the ground up: the same of those layers
+unfoldable pub groundRecord : List ℕ → ℕ → ℕ → ℕ → Answer Reservation
+groundRecord code flight start end = andThen (cellOf code) (λ c. reserved flight start end (groundColumn c))
 
 -- by space code of edition 1: 6, 7 or 20, 14, else the record of its space cell
 unfoldable pub spaceRecord : List ℕ → ℕ → ℕ → ℕ → Answer Reservation

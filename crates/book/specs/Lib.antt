@@ -3,4 +3,5 @@ pub mod Meaning
 pub mod Book
 pub mod Safety
 pub mod Reasons
+pub mod Holding
 pub mod inner

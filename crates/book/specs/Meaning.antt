@@ -3,7 +3,8 @@
 use mathlib.Core.Path.{_≡_}
 use mathlib.Core.Logic.{_↔_}
 use Prim.Native.Nat.{ℕ, _≤_, _<_}
-use lib.IntN.{pos}
+use lib.IntN.{ℤ, pos, negℤ}
+use lib.Signed.{_≤ℤ_}
 use Rattle.grid.specs.declared.Cell.{Cell}
 use Rattle.grid.specs.declared.Refusal.{Refusal}
 use Rattle.grid.specs.Units.{Cube}
@@ -19,12 +20,19 @@ pub record Reserves (flight start end : ℕ) (cubes : Cube → Type 0) (a : Rese
   pub names : (s : Cube) → NamesCube a s ↔ cubes s
   pub minutes : (m : ℕ) → NamesMinute a m ↔ ((start ≤ m) × (m < end))
 
--- the cubes of a plane code: over the squares of its cell, in the layers 0 to 1,887,436,799
-pub record InColumn (c : Cell) (s : Cube) : Type 0 where
+-- the cubes over the squares of a cell, in the layers from the lowest to the highest, both included
+pub record InColumn (lowest highest : ℤ) (c : Cell) (s : Cube) : Type 0 where
   pub square : Covers c (s .0)
-  pub height : ℕ
-  pub layer : s .1 ≡ pos height
-  pub most : height ≤ 1887436799
+  pub not-below : lowest ≤ℤ s .1
+  pub not-above : s .1 ≤ℤ highest
+
+-- the cubes of a plane code: layers -1,887,436,800 to 1,887,436,799
+abbrev pub InPlane : Cell → Cube → Type 0
+InPlane c s = InColumn (negℤ (pos 1887436800)) (pos 1887436799) c s
+
+-- the cubes of a plane code in the ground call: layers 0 to 1,887,436,799
+abbrev pub InGround : Cell → Cube → Type 0
+InGround c s = InColumn (pos 0) (pos 1887436799) c s
 
 -- why there is no record to add: the code's own refusal, else 14
 pub data WhyNone {C : Type 0} (read : Answer C) (start end : ℕ) : Refusal → Type 0 where

@@ -1,10 +1,11 @@
-// The reservation book (document 02, Wish 3): a slice of records that the scheduler lends, to add to and to release from.
+// The reservation book (document 02, Wishes 3 and 7): a slice of records that the scheduler lends, to add to and to release from.
 // `run` is the one function that goes through the book; everything that is decided is decided by the functions before it, on plain values.
 
 ghost use mathlib.Core.Path.{_≡_};
 ghost use Prim.Native.Nat.{_<_};
-ghost use Rattle.grid.specs.Answers.{refused};
-ghost use Rattle.book.specs.Asking.{nothingOf, blank, column, reserved, planeRecord, spaceRecord, toAdd, toRelease};
+ghost use Rattle.grid.specs.Answers.{refused, andThen};
+ghost use Rattle.grid.specs.Plane.{cellOf};
+ghost use Rattle.book.specs.Asking.{nothingOf, blank, over, reserved, planeRecord, groundRecord, spaceRecord, toAdd, toRelease};
 ghost use Rattle.book.specs.Book.{off, addAt, releaseAt, becomes, carried, usedIn, booked};
 ghost use Rattle.book.specs.inner.Scan.{views, beginOf, firstSeen, lookOf, seenAnswer, usedPlace, doneOf};
 use grid::Cell;
@@ -17,8 +18,12 @@ use space::SpaceRead;
 // The most records that a book has.
 const MOST: usize = 256;
 
-// The layers that a plane code stands for: so many from 0 on.
-const COLUMN: u32 = 1887436800;
+// The lowest layer of edition 1, how many layers it has, and how many of them from the ground up.
+const LOWEST: i32 = -1887436800;
+
+const ALL_LAYERS: u32 = 3774873600;
+
+const GROUND_UP: u32 = 1887436800;
 
 // What is to be done: add a record, release a flight, or nothing, being refused already.
 pub enum Task {
@@ -130,25 +135,39 @@ fn reserve(flight: u32, start: u32, end: u32, s: SpaceCell) -> Ask
     ask_nothing(grid::refuse(14))
 }
 
-// A plane cell over the layers that a plane code stands for.
-fn column(c: Cell) -> SpaceCell
-    ensures { λ r. ⌜ r ≡ column c ⌝ }
+// A plane cell over so many layers from a floor on.
+fn over(floor: i32, thickness: u32, c: Cell) -> SpaceCell
+    ensures { λ r. ⌜ r ≡ over floor thickness c ⌝ }
 {
     SpaceCell {
         cell: c,
-        floor: 0,
-        thickness: COLUMN,
+        floor: floor,
+        thickness: thickness,
     }
 }
 
-// Adding by plane code: 6, 7 or 20, 14, else a record to add.
+// By plane code, over these layers: 6, 7 or 20, 14, else a record to add.
+fn ask_over(floor: i32, thickness: u32, code: &[u8], flight: u32, start: u32, end: u32) -> Ask
+    ensures { λ q. ⌜ q ≡ toAdd (andThen (cellOf (now (code .entry))) (λ c. reserved flight start end (over floor thickness c))) ⌝ }
+{
+    match plane::read(code) {
+        PlaneRead::Found(c) => reserve(flight, start, end, over(floor, thickness, c)),
+        PlaneRead::Refused(e) => ask_nothing(e),
+    }
+}
+
+// Adding by plane code, over all layers: 6, 7 or 20, 14, else a record to add.
 pub fn ask_plane(code: &[u8], flight: u32, start: u32, end: u32) -> Ask
     ensures { λ q. ⌜ q ≡ toAdd (planeRecord (now (code .entry)) flight start end) ⌝ }
 {
-    match plane::read(code) {
-        PlaneRead::Found(c) => reserve(flight, start, end, column(c)),
-        PlaneRead::Refused(e) => ask_nothing(e),
-    }
+    ask_over(LOWEST, ALL_LAYERS, code, flight, start, end)
+}
+
+// Adding by plane code, over the layers from the ground up: the same.
+pub fn ask_ground(code: &[u8], flight: u32, start: u32, end: u32) -> Ask
+    ensures { λ q. ⌜ q ≡ toAdd (groundRecord (now (code .entry)) flight start end) ⌝ }
+{
+    ask_over(0, GROUND_UP, code, flight, start, end)
 }
 
 // Adding by space code of edition 1: 6, 7 or 20, 14, else a record to add.

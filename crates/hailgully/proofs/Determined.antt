@@ -29,7 +29,7 @@ use Rattle.book.specs.declared.Ask.{Ask}
 use Rattle.book.specs.declared.Booked.{Booked}
 use Rattle.book.specs.declared.Booked.the-variants as book-as
 use Rattle.book.specs.declared.Done.{Done}
-use Rattle.book.specs.Asking.{planeRecord, spaceRecord, toAdd, toRelease}
+use Rattle.book.specs.Asking.{planeRecord, groundRecord, spaceRecord, toAdd, toRelease}
 use Rattle.book.specs.Book.{carried, usedIn, booked}
 use Rattle.places.specs.declared.Found.{Found}
 use Rattle.places.specs.declared.Found.the-variants as found-as
@@ -182,6 +182,10 @@ hg-booked-one q book a b e f = λ j. (equal (a .0) (b .0) (e .0) (f .0) j, equal
 pub hg-book-add-plane : (code : List ℕ) (flight start end : ℕ) (book : List Reservation)
     → Determined (λ (r : HgBooked × List Reservation). (r .0 ≡ bookedFor (carried (toAdd (planeRecord code flight start end)) book .0)) × (r .1 ≡ carried (toAdd (planeRecord code flight start end)) book .1))
 hg-book-add-plane code flight start end book = hg-booked-one (toAdd (planeRecord code flight start end)) book
+
+pub hg-book-add-ground : (code : List ℕ) (flight start end : ℕ) (book : List Reservation)
+    → Determined (λ (r : HgBooked × List Reservation). (r .0 ≡ bookedFor (carried (toAdd (groundRecord code flight start end)) book .0)) × (r .1 ≡ carried (toAdd (groundRecord code flight start end)) book .1))
+hg-book-add-ground code flight start end book = hg-booked-one (toAdd (groundRecord code flight start end)) book
 
 pub hg-book-add-space : (code : List ℕ) (flight start end : ℕ) (book : List Reservation)
     → Determined (λ (r : HgBooked × List Reservation). (r .0 ≡ bookedFor (carried (toAdd (spaceRecord code flight start end)) book .0)) × (r .1 ≡ carried (toAdd (spaceRecord code flight start end)) book .1))

@@ -11,7 +11,7 @@ ghost use Rattle.space.specs.Space.{spaceText, spaceRead};
 ghost use Rattle.reference.specs.Text.{referenceText, targetText};
 ghost use Rattle.arcseconds.specs.Readings.{unitsOf, unitsRead};
 ghost use Rattle.arcseconds.specs.Boxes.{BoxOf};
-ghost use Rattle.book.specs.Asking.{planeRecord, spaceRecord, toAdd, toRelease};
+ghost use Rattle.book.specs.Asking.{planeRecord, groundRecord, spaceRecord, toAdd, toRelease};
 ghost use Rattle.book.specs.Book.{carried, booked};
 ghost use Rattle.places.specs.Finding.{placeFound, foundIn};
 ghost use Rattle.short_codes.specs.Text.{shortText};
@@ -401,8 +401,8 @@ pub extern "C" fn hg_plane_box(code: &[u8]) -> HgBox
     }
 }
 
-// Adds a reservation of a plane code's cell, over the layers that it stands for, to a book: for a flight, and the minutes from start to end, the end
-// not included. Refusals, in order: 19, 6, 7 or 20, 14, 15, 16 with the place of the first record in conflict, 17.
+// Adds a reservation of a plane code's cell, over all layers of edition 1, to a book: for a flight, and the minutes from start to end, the end not
+// included. Refusals, in order: 19, 6, 7 or 20, 14, 15, 16 with the place of the first record in conflict, 17.
 #[no_mangle]
 pub extern "C" fn hg_book_add_plane(
     code: &[u8],
@@ -414,6 +414,22 @@ pub extern "C" fn hg_book_add_plane(
     ensures { λ r. ⌜ (r ≡ bookedFor (carried (toAdd (planeRecord (now (code .entry)) flight start end)) (now (book .entry)) .0)) × (now (book .exit) ≡ carried (toAdd (planeRecord (now (code .entry)) flight start end)) (now (book .entry)) .1) ⌝ }
 {
     let q = book::ask_plane(code, flight, start, end);
+    let d = book::run(book, q);
+    booked_of(d)
+}
+
+// The same for a ground vehicle, over the layers from the ground up alone. Refusals, in order: 19, 6, 7 or 20, 14, 15, 16 with the place, 17.
+#[no_mangle]
+pub extern "C" fn hg_book_add_ground(
+    code: &[u8],
+    flight: u32,
+    start: u32,
+    end: u32,
+    book: &mut [Reservation],
+) -> HgBooked
+    ensures { λ r. ⌜ (r ≡ bookedFor (carried (toAdd (groundRecord (now (code .entry)) flight start end)) (now (book .entry)) .0)) × (now (book .exit) ≡ carried (toAdd (groundRecord (now (code .entry)) flight start end)) (now (book .entry)) .1) ⌝ }
+{
+    let q = book::ask_ground(code, flight, start, end);
     let d = book::run(book, q);
     booked_of(d)
 }

@@ -1,6 +1,8 @@
-//! Wish 3 of document 02 in worked cases, asked of the oracle, with the numbers
-//! of Wish 5. The cells are those of document 01: N31A is 0° to 6° east, 0° to 4°
-//! north.
+//! Wishes 3 and 7 of document 02 in worked cases, asked of the oracle, with the
+//! numbers of Wish 5. The cells are those of document 01: N31A is 0° to 6° east,
+//! 0° to 4° north.
+
+mod columns;
 
 use super::{plain, release, Kind, Request, Reservation, MOST};
 use crate::cases::{nothing, Random, ZEROS};
@@ -25,6 +27,10 @@ fn plane(code: &str, flight: u32, minutes: (u32, u32), book: &mut [Reservation])
     add(Kind::Plane, code, flight, minutes, book)
 }
 
+fn ground(code: &str, flight: u32, minutes: (u32, u32), book: &mut [Reservation]) -> Given {
+    add(Kind::Ground, code, flight, minutes, book)
+}
+
 fn space(code: &str, flight: u32, minutes: (u32, u32), book: &mut [Reservation]) -> Given {
     add(Kind::Space, code, flight, minutes, book)
 }
@@ -36,14 +42,15 @@ fn a_day() {
     let first = book[0];
     assert_eq!((first.live, first.flight, first.start, first.end), (1, 7, 60, 120));
     assert_eq!((first.cell.plane.level, first.cell.plane.width, first.cell.plane.height), (1, 44_236_800, 29_491_200));
-    assert_eq!((first.cell.floor, first.cell.thickness), (0, 1_887_436_800));
+    assert_eq!((first.cell.floor, first.cell.thickness), (-1_887_436_800, 3_774_873_600));
     // "The end not included": the next flight begins when this one ends.
     assert_eq!(plane("N31A", 8, (120, 121), &mut book), Ok(1));
     assert_eq!(plane("N31A00", 9, (119, 121), &mut book), refused(16, 0));
     assert_eq!(plane("N31A00", 9, (120, 200), &mut book), refused(16, 1));
     assert_eq!(plane("N32A", 9, (0, 200), &mut book), Ok(2));
-    // Below ground nothing stands in the way of a plane code.
-    assert_eq!(space("N131A63", 10, (60, 120), &mut book), Ok(3));
+    // Below ground a plane code holds its cell too, and no other one.
+    assert_eq!(space("N131A63", 10, (60, 120), &mut book), refused(16, 0));
+    assert_eq!(space("N131B63", 10, (60, 120), &mut book), Ok(3));
     assert_eq!(space("N031A00", 11, (60, 61), &mut book), refused(16, 0));
     assert_eq!(plane("N30A", 11, (0, 1), &mut book), refused(17, 0));
     assert_eq!(release(7, &mut book).0, Ok(0));
@@ -55,28 +62,30 @@ fn a_day() {
 
 #[test]
 fn refusals_in_order() {
-    let mut random = Random::new(3);
-    let mut live: Vec<Reservation> = (0..=MOST).map(|at| nothing(&mut random, 2, at as u32)).collect();
-    assert_eq!(plane("n31A0", 3, (1, 1), &mut live), refused(19, 0));
-    assert_eq!(release(999, &mut live).0, refused(19, 0));
-    let book = &mut live[..MOST];
-    assert_eq!(plane("n31A0", 3, (1, 1), book), refused(6, 0));
-    assert_eq!(plane("N00A", 3, (1, 1), book), refused(20, 3));
-    assert_eq!(plane("N00-", 3, (1, 1), book), refused(7, 3));
-    assert_eq!(space("N031A0000000F", 3, (1, 1), book), refused(6, 0));
-    assert_eq!(space("N031A000000000F", 3, (1, 1), book), refused(20, 14));
-    assert_eq!(space("N031A000000000f", 3, (1, 1), book), refused(7, 14));
-    assert_eq!(plane("N31A", 3, (1, 1), book), refused(14, 0));
-    assert_eq!(plane("N31A", 3, (u32::MAX, 0), book), refused(14, 0));
-    assert_eq!(plane("N31A", 3, (1, 2), book), refused(15, 0));
-    assert_eq!(plane("N31A", 999, (1, 2), book), refused(17, 0));
-    book[200].live = 0;
-    assert_eq!(release(200, book).0, refused(18, 0));
-    assert_eq!(plane("N31A", 200, (1, 2), book), Ok(200));
-    assert_eq!(plane("N31A", 999, (1, 2), book), refused(16, 200));
-    assert_eq!(plane("N31A", 200, (1, 2), book), refused(15, 0));
-    assert_eq!(plane("N31A", 1, (1, 2), &mut []), refused(17, 0));
-    assert_eq!(release(1, &mut []).0, refused(18, 0));
+    for column in [plane, ground] {
+        let mut random = Random::new(3);
+        let mut live: Vec<Reservation> = (0..=MOST).map(|at| nothing(&mut random, 2, at as u32)).collect();
+        assert_eq!(column("n31A0", 3, (1, 1), &mut live), refused(19, 0));
+        assert_eq!(release(999, &mut live).0, refused(19, 0));
+        let book = &mut live[..MOST];
+        assert_eq!(column("n31A0", 3, (1, 1), book), refused(6, 0));
+        assert_eq!(column("N00A", 3, (1, 1), book), refused(20, 3));
+        assert_eq!(column("N00-", 3, (1, 1), book), refused(7, 3));
+        assert_eq!(space("N031A0000000F", 3, (1, 1), book), refused(6, 0));
+        assert_eq!(space("N031A000000000F", 3, (1, 1), book), refused(20, 14));
+        assert_eq!(space("N031A000000000f", 3, (1, 1), book), refused(7, 14));
+        assert_eq!(column("N31A", 3, (1, 1), book), refused(14, 0));
+        assert_eq!(column("N31A", 3, (u32::MAX, 0), book), refused(14, 0));
+        assert_eq!(column("N31A", 3, (1, 2), book), refused(15, 0));
+        assert_eq!(column("N31A", 999, (1, 2), book), refused(17, 0));
+        book[200].live = 0;
+        assert_eq!(release(200, book).0, refused(18, 0));
+        assert_eq!(column("N31A", 200, (1, 2), book), Ok(200));
+        assert_eq!(column("N31A", 999, (1, 2), book), refused(16, 200));
+        assert_eq!(column("N31A", 200, (1, 2), book), refused(15, 0));
+        assert_eq!(column("N31A", 1, (1, 2), &mut []), refused(17, 0));
+        assert_eq!(release(1, &mut []).0, refused(18, 0));
+    }
 }
 
 #[test]

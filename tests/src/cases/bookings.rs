@@ -77,7 +77,8 @@ fn about_minutes((start, end): (u32, u32)) -> Vec<(u32, u32)> {
     list.into_iter().filter_map(|(start, end)| Some((start.try_into().ok()?, end.try_into().ok()?))).collect()
 }
 
-/// Records about a cell and minutes, axis by axis.
+/// Records about a cell and minutes, axis by axis; both columns of plane codes are
+/// among their layers.
 pub struct About {
     cell: SpaceCell,
     minutes: (u32, u32),
@@ -90,12 +91,13 @@ pub struct About {
 impl About {
     pub fn new(cell: SpaceCell, minutes: (u32, u32)) -> About {
         let SpaceCell { plane: PlaneCell { west, south, width, height, .. }, floor, thickness } = cell;
+        let columns = Kind::COLUMNS.into_iter().filter_map(Kind::column);
         About {
             cell,
             minutes,
             longitudes: held(about_longitudes(west.into(), width.into())),
             latitudes: held(about(south.into(), height.into())),
-            layers: held(about(floor.into(), thickness.into())),
+            layers: held(about(floor.into(), thickness.into())).into_iter().chain(columns).collect(),
             times: about_minutes(minutes),
         }
     }
@@ -183,13 +185,13 @@ pub fn nothing(random: &mut Random, live: u32, flight: u32) -> Reservation {
     record
 }
 
-/// A code of either kind.
+/// A code, and the call that is to add by it.
 pub type Coded = (Kind, Vec<u8>);
 
 /// The code of a square and layer at a level.
 pub fn coded(kind: Kind, level: usize, (longitude, latitude): (i64, i64), layer: i64) -> Coded {
     let code = match kind {
-        Kind::Plane => plane::write::finest(longitude, latitude)[..LENGTHS[level - 1]].to_vec(),
+        Kind::Plane | Kind::Ground => plane::write::finest(longitude, latitude)[..LENGTHS[level - 1]].to_vec(),
         Kind::Space => space::finest(Edition::Ours, (longitude, latitude), layer)[..space::LENGTHS[level - 1]].to_vec(),
     };
     (kind, code)
@@ -202,7 +204,7 @@ pub fn beside_180(random: &mut Random) -> (i64, i64) {
 }
 
 /// A few codes of cells at, beside, above and below one square, of at most three
-/// levels, so that they touch, nest and overlap.
+/// levels, so that they touch, nest and overlap; half of them are space codes.
 pub fn codes_about(random: &mut Random, count: usize) -> Vec<Coded> {
     let (longitude, latitude) = match random.below(5) {
         0 => beside_180(random),
@@ -221,7 +223,7 @@ pub fn codes_about(random: &mut Random, count: usize) -> Vec<Coded> {
     let mut list = Vec::new();
     for _ in 0..count {
         let level = random.pick(&levels);
-        let kind = if random.one_in(3) { Kind::Plane } else { Kind::Space };
+        let kind = random.pick(&[Kind::Plane, Kind::Ground, Kind::Space, Kind::Space]);
         let (_, code) = coded(Kind::Space, level, (longitude, latitude), high);
         let sizes = space::read(1, &code).map_or([1; 3], |cell| [cell.plane.width, cell.plane.height, cell.thickness]);
         let [east, north, up] = sizes.map(|size| random.between(-1, 1) * i64::from(size));

@@ -17,6 +17,7 @@ pub enum Call {
     Arcseconds,
     PlaneBox,
     BookAddPlane,
+    BookAddGround,
     BookAddSpace,
     BookRelease,
     PlaceFind,
@@ -35,7 +36,7 @@ pub type Named = (u32, u32);
 type Ordered = (Named, &'static [Named]);
 
 impl Call {
-    pub const ALL: [Call; 16] = [
+    pub const ALL: [Call; 17] = [
         PlaneWrite,
         PlaneRead,
         SpaceWrite1,
@@ -47,6 +48,7 @@ impl Call {
         Arcseconds,
         PlaneBox,
         BookAddPlane,
+        BookAddGround,
         BookAddSpace,
         BookRelease,
         PlaceFind,
@@ -71,6 +73,7 @@ impl Call {
     pub fn book_add(kind: Kind) -> Call {
         match kind {
             Kind::Plane => BookAddPlane,
+            Kind::Ground => BookAddGround,
             Kind::Space => BookAddSpace,
         }
     }
@@ -88,6 +91,7 @@ impl Call {
             Arcseconds => "hg_arcseconds",
             PlaneBox => "hg_plane_box",
             BookAddPlane => "hg_book_add_plane",
+            BookAddGround => "hg_book_add_ground",
             BookAddSpace => "hg_book_add_space",
             BookRelease => "hg_book_release",
             PlaceFind => "hg_place_find",
@@ -123,7 +127,7 @@ impl Call {
                 ((5, 1), &[(6, 1)]),
             ],
             Arcseconds => &[((11, 1), &[]), ((2, 1), &[]), ((3, 1), &[])],
-            BookAddPlane | BookAddSpace => &[
+            BookAddPlane | BookAddGround | BookAddSpace => &[
                 ((19, 1), &[]),
                 ((6, 1), &[]),
                 ((7, 1), &[]),

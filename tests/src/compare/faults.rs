@@ -10,7 +10,7 @@ use hailgully_raw::HgReservation;
 use hailgully_tests::slips;
 
 /// The lengths, places and editions that the calls take.
-const SIZES: [&str; 29] = [
+const SIZES: [&str; 31] = [
     "hg_plane_write length",
     "hg_plane_write at",
     "hg_plane_read length",
@@ -29,6 +29,8 @@ const SIZES: [&str; 29] = [
     "hg_plane_box length",
     "hg_book_add_plane code_length",
     "hg_book_add_plane length",
+    "hg_book_add_ground code_length",
+    "hg_book_add_ground length",
     "hg_book_add_space code_length",
     "hg_book_add_space length",
     "hg_book_release length",
@@ -43,7 +45,7 @@ const SIZES: [&str; 29] = [
 ];
 
 /// What they are lent.
-const LENT: [&str; 22] = [
+const LENT: [&str; 24] = [
     "hg_plane_write line",
     "hg_plane_read code",
     "hg_space_write line",
@@ -56,6 +58,8 @@ const LENT: [&str; 22] = [
     "hg_plane_box code",
     "hg_book_add_plane code",
     "hg_book_add_plane book",
+    "hg_book_add_ground code",
+    "hg_book_add_ground book",
     "hg_book_add_space code",
     "hg_book_add_space book",
     "hg_book_release book",

@@ -91,17 +91,27 @@ pub fn plane_box(code: &mut [u8]) -> HgBox {
 
 type Add = unsafe extern "C" fn(*const u8, usize, u32, u32, u32, *mut HgReservation, usize) -> HgBooked;
 
+/// An adding call, and the names that the faults have for its two lengths and for what it is lent.
+macro_rules! adder {
+    ($call:ident) => {
+        (
+            $call,
+            [
+                concat!(stringify!($call), " code_length"),
+                concat!(stringify!($call), " length"),
+                concat!(stringify!($call), " code"),
+                concat!(stringify!($call), " book"),
+            ],
+        )
+    };
+}
+
 /// Adds by the code that is lent, which is the request's.
 pub fn book_add(request: &Request, code: &mut [u8], book: &mut [HgReservation]) -> HgBooked {
     let (add, names): (Add, [&str; 4]) = match request.kind {
-        Kind::Plane => (
-            hg_book_add_plane,
-            ["hg_book_add_plane code_length", "hg_book_add_plane length", "hg_book_add_plane code", "hg_book_add_plane book"],
-        ),
-        Kind::Space => (
-            hg_book_add_space,
-            ["hg_book_add_space code_length", "hg_book_add_space length", "hg_book_add_space code", "hg_book_add_space book"],
-        ),
+        Kind::Plane => adder!(hg_book_add_plane),
+        Kind::Ground => adder!(hg_book_add_ground),
+        Kind::Space => adder!(hg_book_add_space),
     };
     let (code_length, length) = (cut(names[0], code.len()), cut(names[1], book.len()));
     let from = code.as_mut_ptr();

@@ -67,7 +67,7 @@ fn plane_codes() {
     ] {
         assert_eq!(plane::read(code), Err(given));
         assert_eq!(plane_box(code), Err(given));
-        assert_eq!(adding(Kind::Plane, code), given);
+        assert_eq!(Kind::COLUMNS.map(|kind| adding(kind, code)), [given; 2]);
         // The base before the target, whatever it has.
         let write = |base: &[u8], target: &[u8]| reference::write(base, target, &mut [0; 30], 0);
         for other in [&b"x31A"[..], b"V31A", b"-", b"N31A"] {

@@ -67,7 +67,7 @@ impl Run {
     /// Counts where an added code lies.
     fn added(&mut self, call: Call, code: &[u8], cell: &SpaceCell) {
         match call {
-            Call::BookAddPlane => self.accepted(call, code),
+            Call::BookAddPlane | Call::BookAddGround => self.accepted(call, code),
             _ => {
                 let (flat, length) = space::plane_part(code);
                 self.accepted_space(call, &flat[..length], cell.floor < 0);
@@ -108,7 +108,7 @@ impl Run {
             return;
         }
         let mut book = HugeBook::new(length);
-        for kind in Kind::BOTH {
+        for kind in Kind::ALL {
             let request = Request { kind, code, flight: 1, start: 0, end: 1 };
             let mut held = self.hold(code);
             let got = library::book_add(&request, held.lent.bytes(), book.records());

@@ -1,5 +1,7 @@
-//! Cases of the three calls of the book: single calls on books of every kind, and (sequences.rs) thousands of calls on one book.
+//! Cases of the four calls of the book: single calls on books of every kind, (columns.rs) what plane codes hold, and (sequences.rs) thousands of calls
+//! on one book.
 
+mod columns;
 mod sequences;
 
 use super::{each_length, fixed, random, with_one_free, Family};
@@ -14,6 +16,7 @@ pub fn families() -> Vec<Family> {
         fixed("book: lengths, free records and what they hide", 16, lengths),
         fixed("book: live marks and flight numbers", 16, marks),
         fixed("book: codes of lengths 0 to 60", 16, code_lengths),
+        fixed("book: whole columns, columns from the ground up, and layers", 24, columns::pairs),
         random("book: random single calls", 3, singles),
         random("book: sequences from nothing live", 3, sequences::from_nothing_live),
         random("book: sequences from odd records", 3, sequences::from_odd_records),
@@ -46,7 +49,7 @@ fn about(run: &mut Run, request: &Request) -> Option<About> {
 /// One live record beside one that is not, about the cell of every level of a square.
 fn axes(run: &mut Run, piece: u64) {
     let square = squares()[piece as usize];
-    for kind in Kind::BOTH {
+    for kind in Kind::ALL {
         for level in 1..=10 {
             let layer = [0, -1, 1_887_436_799, -1_887_436_800, 12_345_678][(level + piece as usize) % 5];
             let code = cases::coded(kind, level, square, layer);
@@ -63,7 +66,7 @@ fn axes(run: &mut Run, piece: u64) {
 /// Books of many lengths: the free records at every kind of place; with a conflict, with the flight number, with bad codes and minutes, and with none.
 fn lengths(run: &mut Run, piece: u64) {
     let square = squares()[piece as usize];
-    for kind in Kind::BOTH {
+    for kind in Kind::ALL {
         let code = cases::coded(kind, 1 + piece as usize % 10, square, piece as i64 - 8);
         let request = request(&code, MINUTES[piece as usize % MINUTES.len()]);
         let Some(about) = about(run, &request) else { continue };
@@ -106,7 +109,7 @@ fn on_each_side(run: &mut Run, request: &Request, book: &[Reservation]) {
 /// Three records with every mark: of one flight number, in conflict with the request or not, two of them the same.
 fn marks(run: &mut Run, piece: u64) {
     let square = squares()[piece as usize];
-    let code = cases::coded(Kind::BOTH[piece as usize % 2], 1 + piece as usize % 10, square, -5);
+    let code = cases::coded(Kind::ALL[piece as usize % 3], 1 + piece as usize % 10, square, -5);
     let request = request(&code, (10, 20));
     let Some(about) = about(run, &request) else { return };
     for first in MARKS {
@@ -132,7 +135,7 @@ fn marks(run: &mut Run, piece: u64) {
 fn code_lengths(run: &mut Run, piece: u64) {
     let square = squares()[piece as usize];
     let book = with_one_free(&mut run.random);
-    for kind in Kind::BOTH {
+    for kind in Kind::ALL {
         let (_, code) = cases::coded(kind, 10, square, 7);
         each_length(&code, b"07AFN -\0", |code| {
             run.book_add_once(&Request { kind, code, flight: 5, start: 0, end: 9 }, &book);

@@ -31,8 +31,18 @@ enum Reader {
 
 use Reader::*;
 
-const READERS: [Reader; 9] =
-    [Plane, PlaneBox, Space(Edition::Ours), Space(Edition::Theirs), Reference, Base, Target, Add(Kind::Plane), Add(Kind::Space)];
+const READERS: [Reader; 10] = [
+    Plane,
+    PlaneBox,
+    Space(Edition::Ours),
+    Space(Edition::Theirs),
+    Reference,
+    Base,
+    Target,
+    Add(Kind::Plane),
+    Add(Kind::Ground),
+    Add(Kind::Space),
+];
 
 /// Of the places of each kind: an ordinary square, a belt cell, a disc cell, a ring around a cap, and the pole itself, each in the north and in the
 /// south.

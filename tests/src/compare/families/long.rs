@@ -52,7 +52,7 @@ fn lines_and_codes(run: &mut Run, around: Around) {
 fn books(run: &mut Run, piece: u64) {
     let (near, square) = around(&SMALL, piece);
     let book: Vec<Reservation> = (0..near + 3).map(|at| cases::nothing(&mut run.random, at as u32 % 2, 1)).collect();
-    for kind in Kind::BOTH {
+    for kind in Kind::ALL {
         let (_, code) = cases::coded(kind, 10, square, -7);
         run.book_add_once(&Request { kind, code: &code, flight: 2, start: 3, end: 4 }, &book);
     }
@@ -149,7 +149,9 @@ fn codes(run: &mut Run, (near, square): Around) {
             let long = longer(&flat[..length], by, fill);
             run.plane_read(&long);
             run.plane_box(&long);
-            run.book_add_once(&Request { kind: Kind::Plane, code: &long, flight: 2, start: 3, end: 4 }, &free);
+            for kind in Kind::COLUMNS {
+                run.book_add_once(&Request { kind, code: &long, flight: 2, start: 3, end: 4 }, &free);
+            }
             let long = longer(&tall[..tall_length], by, fill);
             run.space_read(1, &long);
             run.space_read(2, &long);

@@ -47,7 +47,7 @@ fn corners(run: &mut Run, cell: &Listed) {
                 run.space_read(edition, &tall[..tall_length]);
             }
             place(run, &flat[..length]);
-            add(run, Kind::Plane, &flat[..length], &free);
+            Kind::COLUMNS.into_iter().for_each(|kind| add(run, kind, &flat[..length], &free));
             add(run, Kind::Space, &tall[0][..tall_length], &free);
         }
     }

@@ -18,14 +18,16 @@ const NO_RECORDS: &str = "gives no refusal for a book of no records";
 const MARK_2: &str = "marks what it adds with 2";
 const NO_LEVEL: &str = "leaves the level out of what it adds";
 const KEEPS_FLIGHT: &str = "leaves the flight number of the record that it uses";
+const KEEPS_FLOOR: &str = "leaves the layer floor of the record that it uses";
 const WRITES_FIRST: &str = "writes into the free record before it refuses";
 const MARKS_MADE_1: &str = "makes every live mark 1";
+const OLD_REWRITTEN: &str = "makes live records of the old column whole ones";
 const DEAD_CLEARED: &str = "clears the records that are not live";
 const RELEASED_CLEARED: &str = "clears a released record";
 const ALL_RELEASED: &str = "releases every record of the flight";
 const COUNTED_DOWN: &str = "counts a live mark down in releasing";
 
-pub const LIST: [&str; 19] = [
+pub const LIST: [&str; 21] = [
     END_INCLUDED,
     FLIGHT_OF_16_BITS,
     AT_FROM_1,
@@ -39,8 +41,10 @@ pub const LIST: [&str; 19] = [
     MARK_2,
     NO_LEVEL,
     KEEPS_FLIGHT,
+    KEEPS_FLOOR,
     WRITES_FIRST,
     MARKS_MADE_1,
+    OLD_REWRITTEN,
     DEAD_CLEARED,
     RELEASED_CLEARED,
     ALL_RELEASED,
@@ -63,6 +67,16 @@ fn seen(does: &str, book: &[HgReservation], length: usize) -> usize {
         FIRST_256 => length.min(MOST),
         _ => length,
     }
+}
+
+/// The book as it was; what is done to it before every call.
+fn begun(does: &str, book: &mut [HgReservation]) -> Vec<HgReservation> {
+    let before = book.to_vec();
+    if does == OLD_REWRITTEN {
+        let old = |record: &&mut HgReservation| record.live != 0 && (record.floor, record.thickness) == (0, 1_887_436_800);
+        book.iter_mut().filter(old).for_each(|record| (record.floor, record.thickness) = (-1_887_436_800, 3_774_873_600));
+    }
+    before
 }
 
 /// What is done to the book, and to the answer, in every call.
@@ -90,7 +104,7 @@ pub fn adding(
 ) -> HgBooked {
     let (flight, end) = (request.flight, request.end);
     let Some(does) = current(book) else { return call(flight, end, book.as_mut_ptr(), length) };
-    let before = book.to_vec();
+    let before = begun(does, book);
     if does == FLIGHT_OF_16_BITS {
         book.iter_mut().for_each(|record| record.flight &= 0xffff);
     }
@@ -112,6 +126,7 @@ pub fn adding(
                 MARK_2 => record.live = 2,
                 NO_LEVEL => record.level = 0,
                 KEEPS_FLIGHT => record.flight = before[at].flight,
+                KEEPS_FLOOR => record.floor = before[at].floor,
                 _ => {}
             }
         }
@@ -134,7 +149,7 @@ pub fn releasing(
     call: impl FnOnce(u32, *mut HgReservation, usize) -> HgBooked,
 ) -> HgBooked {
     let Some(does) = current(book) else { return call(flight, book.as_mut_ptr(), length) };
-    let before = book.to_vec();
+    let before = begun(does, book);
     let got = call(flight, book.as_mut_ptr(), seen(does, book, length));
     if got.refusal.number == 0 {
         let at = got.at as usize;

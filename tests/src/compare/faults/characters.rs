@@ -7,7 +7,7 @@ use hailgully_tests::slips;
 use hailgully_tests::space::TURNS;
 
 /// The codes that the calls read.
-const CODES: [&str; 9] = [
+const CODES: [&str; 10] = [
     "hg_plane_read code",
     "hg_space_read code",
     "hg_plane_box code",
@@ -15,6 +15,7 @@ const CODES: [&str; 9] = [
     "hg_reference_write base",
     "hg_reference_write target",
     "hg_book_add_plane code",
+    "hg_book_add_ground code",
     "hg_book_add_space code",
     "hg_short_read code",
 ];
