@@ -9,18 +9,18 @@ use mathlib.Core.Bool.{Bool, true, false}
 use mathlib.Core.List.{List, [], _∷_}
 use lib.Dec.{ltb}
 use lib.IntN.{ℤ, pos, negsuc}
-use lib.ListN.{length, set, length-set}
+use lib.ListN.{length, length-set}
 use lib.Seq.{getD-set-same, getD-set-other}
 use borrow.Author.Tests.{ltb-true, ltb-false, lt-ltb}
 use Rattle.grid.specs.declared.SpaceCell.{SpaceCell}
-use Rattle.grid.specs.Units.{index}
 use Rattle.grid.specs.Answers.{Answer, accepted, refused, andThen}
 use Rattle.grid.specs.Cells.{Within}
-use Rattle.grid.specs.Layers.{ours, product, all, floorOf, thicknessOf, editionIn}
+use Rattle.grid.specs.Layers.{ours, product, all, editionIn}
 use Rattle.grid.specs.Plane.{cellOf}
 use Rattle.grid.specs.Space.{spaceCellOf}
-use Rattle.grid.proofs.Answers.{accepted-inj}
+use Rattle.grid.proofs.Answers.{accepted-inj, then-accepted}
 use Rattle.grid.proofs.Cut.{clash}
+use Rattle.grid.proofs.LayerLaws.{stack-covers}
 use Rattle.grid.proofs.Ranges.{space-in-ranges}
 use Rattle.reservations.specs.declared.Reservation.{Reservation}
 use Rattle.reservations.specs.Naming.{Conflict}
@@ -113,7 +113,7 @@ module _ (a : Reservation) (live : a .live ≡ 1) (k : ℕ) where
 
   -- a record that conflicts with it is kept out
   keeps-out : (book : List Reservation) → Stands book → (b : Reservation) → Conflict b a → (x : Answer ℕ) → WhyAdd (accepted b) book x → KeptOut k x
-  keeps-out book s b c x w = go x w
+  keeps-out book s b c = go
     where
       there : LiveAt book k
       there = record { inside = s .inside; alive = let e : recordAt book k .live ≡ 1 = ap (λ (r : Reservation). r .live) (s .is) ∙ live in omega arith }
@@ -145,11 +145,6 @@ module _ (one other : Answer Reservation) (a b : Reservation) (one-is : one ≡ 
 
 -- ---- a plane code and a space code
 
--- a layer of edition 1 is one of those that a plane code stands for
-in-column : (z : ℤ) → index z < product ours → Within (floorOf (product ours) all) (thicknessOf (product ours) all) z
-in-column (pos n) h = record { starts = refl; ends = omega arith }
-in-column (negsuc n) h = record { starts = omega arith; ends = omega arith }
-
 -- its own floor is one of a run's numbers
 own-floor : (z : ℤ) (n : ℕ) → 0 < n → Within z n z
 own-floor (pos a) n h = record { starts = omega arith; ends = omega arith }
@@ -159,7 +154,7 @@ own-floor (negsuc a) n h = record { starts = omega arith; ends = omega arith }
 module _ (flight start end : ℕ) {C : Type 0} (cell : C → SpaceCell) where
   made : (read : Answer C) (c : C) → read ≡ accepted c → (m : ℕ) → (start ≤ m) × (m < end)
       → andThen read (λ y. reserved flight start end (cell y)) ≡ accepted (record { live = 1; flight = flight; space = cell c; start = start; end = end })
-  made read c e m l = ap (λ (z : Answer C). andThen z (λ y. reserved flight start end (cell y))) e ∙ (rw (lt-ltb start end (lt-of-le-of-lt (l .0) (l .1))) refl)
+  made read c e m l = sym (then-accepted (λ (y : C). reserved flight start end (cell y)) e) ∙ (rw (lt-ltb start end (lt-of-le-of-lt (l .0) (l .1))) refl)
 
 module _ (plane : List ℕ) (start end : ℕ) (space : List ℕ) (from to : ℕ) (x : Crossing plane start end space from to) (flight another : ℕ) where
   abbrev a : Reservation
@@ -184,7 +179,7 @@ module _ (plane : List ℕ) (start end : ℕ) (space : List ℕ) (from to : ℕ)
       record {
         minute = x .minute;
         minutes = (record { begun = x .space-minute .0; going = x .space-minute .1 }, record { begun = x .plane-minute .0; going = x .plane-minute .1 });
-        layers = record { layer = x .space-cell .floor; named = (own-floor (x .space-cell .floor) (x .space-cell .thickness) (r .some), in-column (x .space-cell .floor) (r .begins-in)) };
+        layers = record { layer = x .space-cell .floor; named = (own-floor (x .space-cell .floor) (x .space-cell .thickness) (r .some), stack-covers (product ours) all (x .space-cell .floor) (omega arith) refl (r .begins-in)) };
         square = x .square;
         squares = (x .squares .1, x .squares .0);
       }

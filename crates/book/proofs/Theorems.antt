@@ -8,7 +8,7 @@ use native.Mathlib.Omega.{arith}
 use mathlib.Core.List.{List}
 use lib.Dec.{ltb, le→leb, leb→le}
 use lib.IntN.{ℤ, pos, negsuc, negℤ}
-use lib.ListN.{length, set}
+use lib.ListN.{set}
 use lib.Signed.{_≤ℤ_, leZ-yes}
 use borrow.Author.Tests.{ltb-false, le-ltb}
 use Rattle.grid.specs.declared.Cell.{Cell}

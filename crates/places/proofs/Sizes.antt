@@ -4,7 +4,6 @@ use mathlib.Core.Path.{_≡_}
 use mathlib.Core.List.{List, []}
 use Prim.Native.Nat.{ℕ, _+_, _*_, _≤_, _<_}
 use lib.ListN.{length}
-use lib.Dec.{leb}
 use borrow.Author.Tests.{le-leb, lt-leb}
 use Rattle.places.specs.Reading.{wordAt, sized, entriesFrom, entriesOf}
 use Rattle.places.specs.inner.Walk.{opened, noted, lookedIn}
