@@ -1,5 +1,6 @@
 // Arc-second readings (document 01, "Arc-seconds"): two f64 readings as whole units, and a plane cell's box in arc-seconds.
 // Reading works the floor out from the bits; the box rounds nothing, since a unit count divided by 2048 is exact.
+#![tactic(auto)]
 
 ghost use Rattle.std.specs.Prelude.{◌≡◌, not, ℕ, ◌-◌, ◌/◌, ◌^◌, ◌<◌, T, pos};
 ghost use Rattle.std.specs.Float.Ieee.{is_nan};
@@ -12,21 +13,21 @@ ghost use Rattle.arcseconds.specs.inner.Axis.{reading_answer, indexed_of};
 use grid::{Cell, PlaneRead, Refusal};
 
 // A position in whole units.
-#[derive(Drop)]
+#[derive(Clone, Copy)]
 pub struct Units {
     pub longitude: i32,
     pub latitude: i32,
 }
 
 // The answer to a longitude and a latitude in arc-seconds.
-#[derive(Drop)]
+#[derive(Clone, Copy)]
 pub enum UnitsRead {
     Found(Units),
     Refused(Refusal),
 }
 
 // One reading that is a number: its whole units, or that it lies outside the range.
-#[derive(Drop)]
+#[derive(Clone, Copy)]
 enum Reading {
     Whole(i32),
     Outside,
@@ -119,7 +120,7 @@ pub fn read(longitude: f64, latitude: f64) -> UnitsRead
 }
 
 // A box in arc-seconds.
-#[derive(Drop)]
+#[derive(Clone, Copy)]
 pub struct ArcBox {
     pub west: f64,
     pub south: f64,
@@ -128,7 +129,7 @@ pub struct ArcBox {
 }
 
 // The answer to a plane code whose box is asked for.
-#[derive(Drop)]
+#[derive(Clone, Copy)]
 pub enum BoxRead {
     Found(ArcBox),
     Refused(Refusal),

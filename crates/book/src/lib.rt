@@ -1,5 +1,6 @@
 // The reservation book (document 02, Wishes 3 and 7): a slice of records that the scheduler lends, to add to and to release from.
 // `run` is the one function that goes through the book; everything that is decided is decided by the functions before it, on plain values.
+#![tactic(auto)]
 
 ghost use Rattle.std.specs.Prelude.{◌≡◌, ◌<◌};
 ghost use Rattle.grid.specs.Answers.{refused, and_then};
@@ -23,7 +24,7 @@ const ALL_LAYERS: u32 = 3774873600;
 const GROUND_UP: u32 = 1887436800;
 
 // What is to be done: add a record, release a flight, or nothing, being refused already.
-#[derive(Drop)]
+#[derive(Clone, Copy)]
 pub enum Task {
     Add,
     Release,
@@ -31,14 +32,14 @@ pub enum Task {
 }
 
 // What a call asks of the book: the task, and the record to add, or one that has the flight to release and names nothing.
-#[derive(Drop)]
+#[derive(Clone, Copy)]
 pub struct Ask {
     pub task: Task,
     pub sought: Reservation,
 }
 
 // A call's answer: the place of the record that was used or released, or a refusal.
-#[derive(Drop)]
+#[derive(Clone, Copy)]
 pub enum Booked {
     At(usize),
     Refused(Refusal),
@@ -46,7 +47,7 @@ pub enum Booked {
 
 // What a walk has seen: the count of records, the place to look at next, and the first places of a live record with the flight, of one in conflict
 // and of one not live (the count where there is none). Numbers only, so that it stays in registers.
-#[derive(Drop)]
+#[derive(Clone, Copy)]
 pub struct View {
     pub count: usize,
     pub at: usize,
@@ -56,7 +57,7 @@ pub struct View {
 }
 
 // What a walk hands back: the call's answer, and the record at the place that was used as it is now (a blank one where none was).
-#[derive(Drop)]
+#[derive(Clone, Copy)]
 pub struct Done {
     pub answer: Booked,
     pub used: Reservation,

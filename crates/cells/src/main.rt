@@ -1,6 +1,7 @@
 // The program: reads plane codes from standard input, a line each, and prints the cell of each or its refusal (document 01, "Positions to check").
 // It reads what there is, up to 65,536 bytes at a time, and writes the answers of whole lines before it reads on. The work is in `lines`.
 // What could not be read or written it says on standard error; and it has no exit status, so its last word is a byte on descriptor 3 (`VERDICT`).
+#![tactic(auto)]
 
 ghost use Rattle.std.specs.Prelude.{◌≡◌, true, false, ◌≤◌, length, take};
 ghost use Rattle.std.proofs.lemmas.List.Edits.{sets};
@@ -14,7 +15,7 @@ use libc::{STDIN_FILENO, STDOUT_FILENO};
 const VERDICT: i32 = 3;
 
 // What was handed to the output: how many bytes, and whether it took all of them.
-#[derive(Drop)]
+#[derive(Clone, Copy)]
 struct Handed {
     bytes: usize,
     whole: bool,
@@ -37,7 +38,7 @@ fn hand_over(text: &[u8]) -> Handed
 
 // A part of a block: how many bytes of it were used, how many of the line are then held, how many of the output were handed over, and whether
 // the output took them.
-#[derive(Drop)]
+#[derive(Clone, Copy)]
 struct Printed {
     next: usize,
     held: usize,
@@ -62,7 +63,7 @@ fn print_some(block: &[u8], held: usize, line: &mut [u8], out: &mut [u8]) -> Pri
 }
 
 // How many bytes of the line are held at a block's end, and whether the output took all that was handed over.
-#[derive(Drop)]
+#[derive(Clone, Copy)]
 struct Used {
     held: usize,
     whole: bool,
@@ -103,7 +104,7 @@ fn print_last(held: usize, line: &[u8], out: &mut [u8]) -> Handed
 }
 
 // One turn: how many bytes were read, how many of the line are then held, whether there is more to read, and whether all has gone well so far.
-#[derive(Drop)]
+#[derive(Clone, Copy)]
 struct Outcome {
     got: usize,
     held: usize,

@@ -1,4 +1,5 @@
 // How far two longitudes or latitudes are apart, round a full turn. Cells and records hold them as i32.
+#![tactic(auto)]
 
 ghost use Rattle.std.specs.Prelude.{◌≡◌, ◌<◌};
 ghost use Rattle.grid.specs.Units.{TURN, index};

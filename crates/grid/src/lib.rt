@@ -1,5 +1,6 @@
 // The rules of the BeiDou grid (document 01): units, the two tables, characters and digits, and what a reader hands back.
 // What the rules mean stands in specs/, and the theorems over them in proofs/Theorems.antt.
+#![tactic(auto)]
 
 ghost use Rattle.std.specs.Prelude.{◌≡◌, ◌+◌, ◌-◌, ◌<◌, ◌≤◌, length, slice_index};
 ghost use Rattle.std.proofs.lemmas.List.Edits.{sets};
@@ -29,7 +30,7 @@ pub const POLAR: u32 = 88 * DEGREE;
 pub const DISC: u32 = 89 * DEGREE;
 
 // One level of the grid: a line of document 01's table, and what a polar cell and a cap divide into.
-#[derive(Drop)]
+#[derive(Clone, Copy)]
 pub struct Split {
     pub columns: u32,
     pub rows: u32,
@@ -42,7 +43,7 @@ pub struct Split {
 }
 
 // Where a polar cell of level 2 begins: its west edge in eastward units, and the latitude index of its edge farther from the pole.
-#[derive(Drop)]
+#[derive(Clone, Copy)]
 pub struct PolarCell {
     pub west: u32,
     pub low: u32,
@@ -50,7 +51,7 @@ pub struct PolarCell {
 
 // A plane cell, as a reader hands it back. In C it has this layout, so that a record can hold one.
 #[repr(C)]
-#[derive(Drop)]
+#[derive(Clone, Copy)]
 pub struct Cell {
     pub level: u32,
     pub west: i32,
@@ -61,7 +62,7 @@ pub struct Cell {
 
 // A space cell adds layer floor and thickness.
 #[repr(C)]
-#[derive(Drop)]
+#[derive(Clone, Copy)]
 pub struct SpaceCell {
     pub cell: Cell,
     pub floor: i32,
@@ -69,7 +70,7 @@ pub struct SpaceCell {
 }
 
 // A refusal: its number in the documents, the place that it speaks of (a bad character's, or a record's), and which code it is about.
-#[derive(Drop)]
+#[derive(Clone, Copy)]
 pub struct Refusal {
     pub number: u32,
     pub place: usize,
@@ -77,14 +78,14 @@ pub struct Refusal {
 }
 
 // A writer's answer: the number of bytes written, or a refusal.
-#[derive(Drop)]
+#[derive(Clone, Copy)]
 pub enum Written {
     Bytes(usize),
     Refused(Refusal),
 }
 
 // A plane reader's answer.
-#[derive(Drop)]
+#[derive(Clone, Copy)]
 pub enum PlaneRead {
     Found(Cell),
     Refused(Refusal),
@@ -152,7 +153,7 @@ pub fn room_from(length: usize, at: usize) -> usize
 }
 
 // A position on the globe, by the side and the outward index of its longitude and of its latitude.
-#[derive(Drop)]
+#[derive(Clone, Copy)]
 pub struct Place {
     pub east: bool,
     pub north: bool,
@@ -457,7 +458,7 @@ pub fn hemisphere(north: bool) -> u8
 // ---- a level's characters
 
 // What a level adds to a code: how many columns the cell of the level before divides into, and the column and the row.
-#[derive(Drop)]
+#[derive(Clone, Copy)]
 pub struct Digits {
     pub columns: u32,
     pub column: u32,

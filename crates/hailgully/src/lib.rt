@@ -1,5 +1,6 @@
 // The C interface (include/hailgully.h): every public call of the library, exported under its C name.
 // Each contract is an equation with the definitions of the call below it.
+#![tactic(auto)]
 
 ghost use Rattle.std.specs.Prelude.{◌≡◌};
 ghost use Rattle.grid.specs.Answers.{accepted, refused, plane_read};
@@ -25,7 +26,7 @@ use reservations::Reservation;
 use space::SpaceRead;
 
 #[repr(C)]
-#[derive(Drop)]
+#[derive(Clone, Copy)]
 pub struct HgRefusal {
     pub number: u32,
     pub ordinal: u32,
@@ -33,14 +34,14 @@ pub struct HgRefusal {
 }
 
 #[repr(C)]
-#[derive(Drop)]
+#[derive(Clone, Copy)]
 pub struct HgWritten {
     pub refusal: HgRefusal,
     pub length: u64,
 }
 
 #[repr(C)]
-#[derive(Drop)]
+#[derive(Clone, Copy)]
 pub struct HgPlaneCell {
     pub refusal: HgRefusal,
     pub level: u32,
@@ -51,7 +52,7 @@ pub struct HgPlaneCell {
 }
 
 #[repr(C)]
-#[derive(Drop)]
+#[derive(Clone, Copy)]
 pub struct HgSpaceCell {
     pub refusal: HgRefusal,
     pub level: u32,
@@ -64,7 +65,7 @@ pub struct HgSpaceCell {
 }
 
 #[repr(C)]
-#[derive(Drop)]
+#[derive(Clone, Copy)]
 pub struct HgUnits {
     pub refusal: HgRefusal,
     pub longitude: i32,
@@ -72,7 +73,7 @@ pub struct HgUnits {
 }
 
 #[repr(C)]
-#[derive(Drop)]
+#[derive(Clone, Copy)]
 pub struct HgBox {
     pub refusal: HgRefusal,
     pub west: f64,
@@ -82,14 +83,14 @@ pub struct HgBox {
 }
 
 #[repr(C)]
-#[derive(Drop)]
+#[derive(Clone, Copy)]
 pub struct HgBooked {
     pub refusal: HgRefusal,
     pub at: u64,
 }
 
 #[repr(C)]
-#[derive(Drop)]
+#[derive(Clone, Copy)]
 pub struct HgPart {
     pub refusal: HgRefusal,
     pub start: u64,

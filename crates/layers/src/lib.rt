@@ -1,5 +1,6 @@
 // The height characters of space codes, both ways (document 01, "Layers and the space code").
 // All is written over an edition's list of radices. Only the two lists tell the editions apart.
+#![tactic(auto)]
 
 ghost use Rattle.std.specs.Prelude.{◌≡◌, true, map, ℕ, ◌+◌, ◌/◌, ◌%◌, ◌≤◌, ◌<◌, negsuc, length, get_or};
 ghost use Rattle.grid.specs.Characters.{char_of, digit_of};
@@ -17,14 +18,14 @@ const OURS: [u32; 10] = [64, 8, 2, 15, 15, 2, 8, 8, 8, 8];
 const THEIRS: [u32; 10] = [64, 8, 2, 16, 16, 2, 8, 8, 8, 8];
 
 // An edition that is asked for, whether it is the second; or refusal 13.
-#[derive(Drop)]
+#[derive(Clone, Copy)]
 pub enum AskedEdition {
     At(bool),
     Refused(Refusal),
 }
 
 // A layer that is asked for: whether it lies above ground, and its rise; or refusal 4.
-#[derive(Drop)]
+#[derive(Clone, Copy)]
 pub enum AskedLayer {
     At(bool, u32),
     Refused(Refusal),
@@ -32,7 +33,7 @@ pub enum AskedLayer {
 
 // What height characters lead to: layers above ground or below, the lowest one's rise, and how many they are;
 // or the place of the first that is not allowed, among them.
-#[derive(Drop)]
+#[derive(Clone, Copy)]
 pub enum LayersRead {
     Found(bool, u32, u32),
     Bad(usize),
@@ -40,7 +41,7 @@ pub enum LayersRead {
 
 // The reading place, and the layers read so far.
 // Once a character is not allowed the height is no longer good, and its place is that character's.
-#[derive(Drop)]
+#[derive(Clone, Copy)]
 struct Height {
     good: bool,
     place: usize,

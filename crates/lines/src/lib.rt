@@ -1,5 +1,6 @@
 // Plane codes a line each, and the program's answers to them (document 01, "Positions to check"): all of the program but its reading and writing.
 // Bytes come in any pieces. The line so far is kept in a buffer, and the answers are laid into another as long as there is room.
+#![tactic(auto)]
 
 ghost use Rattle.std.specs.Prelude.{◌≡◌, ◌+◌, ◌^◌, ◌≤◌, ◌<◌, length, take};
 ghost use Rattle.grid.specs.Answers.{plane_read};
@@ -11,7 +12,7 @@ ghost use Rattle.lines.specs.inner.Buffers.{Laid, MarksWithin, Lent};
 use grid::{Cell, PlaneRead, Refusal};
 
 // How far the work has come: the next byte of the input, how many bytes of the line are held, and where the next answer goes.
-#[derive(Drop)]
+#[derive(Clone, Copy)]
 pub struct Marks {
     pub next: usize,
     pub held: usize,

@@ -1,5 +1,6 @@
 // Reads the rest of an ordinary plane code, after its zone and row (document 01, "Ten levels away from the poles").
 // The reading place is a value: a cursor, and each level read hands back the next one.
+#![tactic(auto)]
 
 ghost use Rattle.std.specs.Prelude.{◌≡◌, true, false, cond, ◌&&◌, ◌+◌, ◌-◌, ◌≤◌, ◌<◌, ltb, length};
 ghost use Rattle.grid.specs.Tree.{bad};
@@ -29,7 +30,7 @@ use grid::{Cell, PlaneRead, Split};
 // The reading place, and the cell read so far: its quarter, the outward indices where it begins, and its size.
 // Once a character is not allowed the cursor is no longer good, and its place is that character's.
 // The bools stand together to keep it small: with eight bytes more the levels are no longer compiled into their caller.
-#[derive(Drop)]
+#[derive(Clone, Copy)]
 struct Cursor {
     good: bool,
     north: bool,

@@ -1,6 +1,7 @@
 // The writer of plane codes of ordinary positions, those whose latitude index is below 88° (document 01, "Ten levels away from the poles").
 // Levels are written one after the other, each over its line of the one table, and no character is written twice. Each step takes the place of its
 // characters from `grid`, in a plane code or in a space code.
+#![tactic(auto)]
 
 ghost use Rattle.std.specs.Prelude.{◌≡◌, true, false, ◌+◌, ◌≤◌, ◌<◌, length};
 ghost use Rattle.std.proofs.lemmas.List.Edits.{sets};

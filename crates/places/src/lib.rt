@@ -1,5 +1,6 @@
 // The place book (document 02, Wish 6): place names with their plane codes, in bytes that the caller lends.
 // Each call goes through the whole book once: it checks every entry, and on the way looks for the name that is asked for.
+#![tactic(auto)]
 
 ghost use Rattle.std.specs.Prelude.{◌≡◌, true, ◌&&◌, [], ◌+◌, ◌≤◌, ◌<◌, length, drop};
 ghost use Rattle.grid.specs.Plane.{cell_of};
@@ -11,7 +12,7 @@ ghost use Rattle.places.specs.inner.Walk.{lesser, four_at, AlikeTo, Alike, clear
 use grid::PlaneRead;
 
 // Where an entry stands in the book: its name from `start` on, and its code straight behind it.
-#[derive(Drop)]
+#[derive(Clone, Copy)]
 pub struct Spot {
     pub start: usize,
     pub name: usize,
@@ -19,7 +20,7 @@ pub struct Spot {
 }
 
 // What a name leads to: its entry, or refusal 21 or 22.
-#[derive(Drop)]
+#[derive(Clone, Copy)]
 pub enum Found {
     At(Spot),
     BadlyFormed,
@@ -28,7 +29,7 @@ pub enum Found {
 
 // What the walk keeps of an asked name: how many names are below it, where the next body begins, and whether an entry was met that is
 // not below; if so, whether it has the name, and its lengths.
-#[derive(Drop)]
+#[derive(Clone, Copy)]
 struct Seen {
     below: usize,
     start: usize,
@@ -39,7 +40,7 @@ struct Seen {
 }
 
 // A badly formed book, or what the walk kept.
-#[derive(Drop)]
+#[derive(Clone, Copy)]
 enum Looked {
     Badly,
     Holds(Seen),

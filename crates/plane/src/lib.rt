@@ -1,5 +1,6 @@
 // Plane codes of levels 1 to 10 (document 01): from position to code, and from code to cell.
 // The ordinary cells and the polar ones go their own roads below this crate; here the refusals are decided and the line is lent on.
+#![tactic(auto)]
 
 ghost use Rattle.std.specs.Prelude.{◌≡◌, ◌+◌, ◌^◌, ◌<◌, ◌≤◌, true, false, length, ◌==◌};
 ghost use Rattle.std.proofs.lemmas.List.Edits.{sets};
@@ -31,7 +32,7 @@ pub fn level_of(n: usize) -> u32
 }
 
 // The first four characters: a sheet by zone and row, N000 or S000, or the place of the first bad one.
-#[derive(Drop)]
+#[derive(Clone, Copy)]
 enum First {
     Sheet(bool, u32, u32),
     Pole(bool),
@@ -105,14 +106,14 @@ fn begin(spaced: bool, code: &[u8]) -> First
 }
 
 // A level that is asked for, or refusal 1.
-#[derive(Drop)]
+#[derive(Clone, Copy)]
 pub enum AskedLevel {
     At(u32),
     Refused(Refusal),
 }
 
 // The place of a position that is asked for, or refusal 2 or 3.
-#[derive(Drop)]
+#[derive(Clone, Copy)]
 pub enum AskedPosition {
     At(Place),
     Refused(Refusal),
@@ -132,7 +133,7 @@ pub fn ask_level(level: i64) -> AskedLevel
 }
 
 // One number of a position: the side and outward index of the unit that it stands for, or that it lies outside its range.
-#[derive(Drop)]
+#[derive(Clone, Copy)]
 enum Standing {
     At(bool, u32),
     Outside,

@@ -2,6 +2,7 @@
 // whose plane characters are read where they stand in it.
 // The reading place is a cursor, a value: each level read hands back the next one.
 // What a cursor means, and what was read, stands in specs/inner/Reading.antt; what the steps ask for in specs/inner/Room.antt.
+#![tactic(auto)]
 
 ghost use Rattle.std.specs.Prelude.{◌≡◌, true, false, cond, ℕ, ◌+◌, ◌≤◌, ◌<◌, min, length};
 ghost use Rattle.grid.specs.Units.{TURN, QUARTER};
@@ -69,7 +70,7 @@ fn named(spaced: bool, code: &[u8]) -> u32
 }
 
 // The reading place of a polar code, and the cell read so far.
-#[derive(Drop)]
+#[derive(Clone, Copy)]
 struct Cursor {
     // Every character so far was allowed.
     good: bool,

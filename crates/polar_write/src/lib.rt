@@ -2,6 +2,7 @@
 // A square is carried down level by level as a Spot, its place in the cell reached so far. A cell that is no cap is seen as wide as
 // it is high, in parts as wide as need be, so that its columns and rows are found alike and every divisor is a constant. Each step takes the place of
 // its characters from `grid`, in a plane code or in a space code.
+#![tactic(auto)]
 
 ghost use Rattle.std.specs.Prelude.{◌≡◌, true, false, ◌+◌, ◌/◌, ◌≤◌, ◌<◌, length};
 ghost use Rattle.std.proofs.lemmas.List.Edits.{sets};
@@ -18,7 +19,7 @@ use grid::{Digits, Place, Split};
 const SIXTH: u32 = 60 * grid::DEGREE;
 
 // Where a square stands: in a cap, x eastward and y from the pole; in another cell, both from its corner in its own directions.
-#[derive(Drop)]
+#[derive(Clone, Copy)]
 struct Spot {
     cap: bool,
     x: u32,
@@ -27,7 +28,7 @@ struct Spot {
 
 // One level: where the square stands in its child, and the digits that lead there (at level 2 those of the polar cell).
 // The rest comes first, here and where a step is made: with the digits first the writer takes a tenth more instructions.
-#[derive(Drop)]
+#[derive(Clone, Copy)]
 struct Step {
     rest: Spot,
     digits: Digits,

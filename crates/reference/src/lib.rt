@@ -1,5 +1,6 @@
 // One-step reference codes (document 01, "Reference codes"): a plane code, a hyphen, M cells east and N cells north.
 // The writer finds M and N between two cells, the reader moves a cell by them; both count round a full turn, east and north alike.
+#![tactic(auto)]
 
 ghost use Rattle.std.specs.Prelude.{◌≡◌, true, ◌&&◌, List, ℕ, ◌+◌, ◌%◌, ◌≤◌, ◌<◌, length};
 ghost use Rattle.std.proofs.lemmas.List.Edits.{sets};
@@ -16,14 +17,14 @@ use distances::LAST;
 use grid::{Cell, HALF, POLAR, Place, PlaneRead, Refusal, TURN, Written};
 
 // M and N as digits, or why there are none.
-#[derive(Drop)]
+#[derive(Clone, Copy)]
 pub enum Offset {
     By(u32, u32),
     Refused(Refusal),
 }
 
 // Where a reference code leads: the target's level and the place of its corner, or why it leads nowhere.
-#[derive(Drop)]
+#[derive(Clone, Copy)]
 enum Goal {
     At(u32, Place),
     Refused(Refusal),

@@ -1,4 +1,5 @@
 // A reservation of the book, and when two of them conflict (document 02, Wish 3): tests on plain values, right for every number that a record can hold.
+#![tactic(auto)]
 
 ghost use Rattle.std.specs.Prelude.{◌≡◌, min, max};
 ghost use Rattle.reservations.specs.Meeting.{minutes_meet, runs_meet, arcs_meet, squares_meet, layers_meet, conflict_test};
@@ -9,7 +10,7 @@ use grid::{Cell, SpaceCell};
 // One reservation: a live mark (0 is not live, any other number is), the flight, the space cell, and the minutes from start to end, the end not included.
 // In memory it is eleven 32-bit numbers: live, flight, level, west, south, width, height, floor, thickness, start, end.
 #[repr(C)]
-#[derive(Drop)]
+#[derive(Clone, Copy)]
 pub struct Reservation {
     pub live: u32,
     pub flight: u32,

@@ -1,4 +1,5 @@
 // Short codes (document 02, Wish 6; source 000, clause 8): a place name, a hyphen, M and N, read with a place book.
+#![tactic(auto)]
 
 ghost use Rattle.std.specs.Prelude.{◌≡◌, true, ◌+◌, ◌-◌};
 ghost use Rattle.grid.specs.Answers.{refused};

@@ -1,6 +1,7 @@
 // Space codes of levels 1 to 10 (document 01), in two editions (document 02, Wish 1): from position and layer to code, and from code to space cell.
 // A space code is woven of its plane code and its height characters: each character goes straight to its place in the line, and is read there. All
 // places come from `grid`.
+#![tactic(auto)]
 
 ghost use Rattle.std.specs.Prelude.{◌≡◌, List, map, ℕ, ◌-◌, ◌≤◌, ◌<◌, length, get_or};
 ghost use Rattle.std.proofs.lemmas.List.Edits.{sets};
@@ -25,14 +26,14 @@ use layers::{AskedEdition, AskedLayer, LayersRead};
 use plane::{AskedLevel, AskedPosition};
 
 // A space reader's answer.
-#[derive(Drop)]
+#[derive(Clone, Copy)]
 pub enum SpaceRead {
     Found(SpaceCell),
     Refused(Refusal),
 }
 
 // What the height characters of a space code lead to: the lowest layer and how many there are, or the place of the first bad one in the space code.
-#[derive(Drop)]
+#[derive(Clone, Copy)]
 enum Heights {
     Found(i32, u32),
     Bad(usize),

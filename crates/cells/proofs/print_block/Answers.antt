@@ -1,0 +1,46 @@
+-- `cells::print_block` meets its contract. The measure is what is left of the block. Assumes nothing.
+use Prim.Native.Nat.{◌-◌}
+use native.Mathlib.Omega.{arith}
+use borrow.Author.Rules.{rules}
+use borrow.Author.Tests.{not-true}
+use Rattle.cells.proofs.Blocks.{not_both, begins, goes_on, ends}
+use Rattle.cells.proofs.print_block.Goals as goal
+
+pub loop-next-init : goal.loop-next-init
+loop-next-init c = begins _ c.requires
+
+pub slice_bounds-print_some-count : goal.slice_bounds-print_some-count
+slice_bounds-print_some-count c = c.loop-next.invariant.inside
+
+pub slice_bounds-print_some-start : goal.slice_bounds-print_some-start
+slice_bounds-print_some-start c = let i = c.loop-next.invariant.inside in search (rules, i)
+
+pub print_some-p-requires : goal.print_some-p-requires
+print_some-p-requires c = c.loop-next.invariant.lent
+
+pub shape_of-line-then-not-p : goal.shape_of-line-then-not-p
+shape_of-line-then-not-p c = ((goes_on c.loop-next.invariant c.loop-next-test.true c.print_some-p.ensures)).0.same_line
+
+pub shape_of-out-then-not-p : goal.shape_of-out-then-not-p
+shape_of-out-then-not-p c = ((goes_on c.loop-next.invariant c.loop-next-test.true c.print_some-p.ensures)).0.same_out
+
+pub returns-then-not-p : goal.returns-then-not-p
+returns-then-not-p c = let m = ((goes_on c.loop-next.invariant c.loop-next-test.true c.print_some-p.ensures)).0 in (m.lent.few, ends m _ (λ e. not_both e (not-true _ c.if-not-p.true)))
+
+pub overflow_add-next : goal.overflow_add-next
+overflow_add-next c = omega (arith, ((goes_on c.loop-next.invariant c.loop-next-test.true c.print_some-p.ensures)).0.inside, c.well_formed)
+
+pub loop-next-smaller : goal.loop-next-smaller
+loop-next-smaller c = omega (arith, ((goes_on c.loop-next.invariant c.loop-next-test.true c.print_some-p.ensures)).1, ((goes_on c.loop-next.invariant c.loop-next-test.true c.print_some-p.ensures)).0.inside)
+
+pub loop-next-preserved : goal.loop-next-preserved
+loop-next-preserved c = ((goes_on c.loop-next.invariant c.loop-next-test.true c.print_some-p.ensures)).0
+
+pub shape_of-line : goal.shape_of-line
+shape_of-line c = c.loop-next.invariant.same_line
+
+pub shape_of-out : goal.shape_of-out
+shape_of-out c = c.loop-next.invariant.same_out
+
+pub returns : goal.returns
+returns c = let i = c.loop-next.invariant in (i.lent.few, ends i _ (λ _. c.loop-next-test.false))

@@ -1,0 +1,11 @@
+-- `cells::print_block` meets its contract. The measure is what is left of the block. Assumes nothing.
+use Prim.Native.Nat.{◌-◌}
+use lib.ListN.{length}
+use Rattle.cells.proofs.Blocks.{Came}
+use Rattle.cells.proofs.print_block.Given as goal
+
+abbrev pub invariant-loop-next : goal.invariant-loop-next
+invariant-loop-next l = Came l.block l.held l.initial.line l.initial.out l.next l.here.held l.line l.out
+
+abbrev pub decreases-loop-next : goal.decreases-loop-next
+decreases-loop-next l = length l.block - l.next

@@ -1,0 +1,47 @@
+-- `cells::run` meets its contract and ends: the measure is the number of turns that are left. Assumes nothing.
+use mathlib.Core.Path.{refl, ◌∙◌}
+use native.Mathlib.Omega.{arith}
+use borrow.Author.Tests.{not-true, not-false}
+use Rattle.cells.proofs.Blocks.{not_both}
+use Rattle.cells.proofs.Turns.{first_turn, next_turn, last_turn}
+use Rattle.cells.proofs.run.Goals as goal
+
+pub loop-turns-init : goal.loop-turns-init
+loop-turns-init c = first_turn c.requires
+
+pub turn-t-requires : goal.turn-t-requires
+turn-t-requires c = c.loop-turns.invariant.lent
+
+pub shape_of-line-then-not-t : goal.shape_of-line-then-not-t
+shape_of-line-then-not-t c = c.turn-t.auto.1.0 ∙ c.loop-turns.invariant.same_line
+
+pub shape_of-block-then-not-t : goal.shape_of-block-then-not-t
+shape_of-block-then-not-t c = c.turn-t.auto.1.1.0 ∙ c.loop-turns.invariant.same_block
+
+pub shape_of-out-then-not-t : goal.shape_of-out-then-not-t
+shape_of-out-then-not-t c = c.turn-t.auto.1.1.1.0 ∙ c.loop-turns.invariant.same_out
+
+pub returns-then-not-t : goal.returns-then-not-t
+returns-then-not-t c = λ e. last_turn c.loop-turns.invariant (c.turn-t.ensures.1.1 (not-true _ c.if-not-t.true) e)
+
+pub overflow_sub-turns : goal.overflow_sub-turns
+overflow_sub-turns c = omega (arith, c.loop-turns-test.true)
+
+pub loop-turns-smaller : goal.loop-turns-smaller
+loop-turns-smaller c = omega (arith, c.loop-turns-test.true)
+
+pub loop-turns-preserved : goal.loop-turns-preserved
+loop-turns-preserved c = let t = c.turn-t in
+    next_turn c.loop-turns.invariant t.auto.1.0 t.auto.1.1.0 t.auto.1.1.1.0 t.ensures.0 (t.ensures.1.0 (not-false _ c.if-not-t.false))
+
+pub shape_of-line : goal.shape_of-line
+shape_of-line c = c.loop-turns.invariant.same_line
+
+pub shape_of-block : goal.shape_of-block
+shape_of-block c = c.loop-turns.invariant.same_block
+
+pub shape_of-out : goal.shape_of-out
+shape_of-out c = c.loop-turns.invariant.same_out
+
+pub returns : goal.returns
+returns c = λ e. not_both e refl

@@ -1,0 +1,9 @@
+-- `cells::run` meets its contract and ends: the measure is the number of turns that are left. Assumes nothing.
+use Rattle.cells.proofs.Turns.{Kept}
+use Rattle.cells.proofs.run.Given as goal
+
+abbrev pub invariant-loop-turns : goal.invariant-loop-turns
+invariant-loop-turns l = Kept l.initial.line l.initial.block l.initial.out l.held l.line l.block l.out
+
+abbrev pub decreases-loop-turns : goal.decreases-loop-turns
+decreases-loop-turns l = l.turns

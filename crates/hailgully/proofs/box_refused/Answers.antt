@@ -1,0 +1,6 @@
+-- `hailgully::box_refused` meets its contract. Assumes nothing.
+use Rattle.hailgully.proofs.Boxes.{box_is}
+use Rattle.hailgully.proofs.box_refused.Goals as goal
+
+pub returns : goal.returns
+returns c = box_is c.boxed.ensures c.refusal_of.ensures c.zeros.ensures

@@ -1,0 +1,12 @@
+-- `places::order_after` meets its contract. Assumes nothing.
+use mathlib.Core.Path.{◌≡◌}
+use Prim.Native.Nat.{◌-◌}
+use lib.ListN.{length}
+use Rattle.places.specs.inner.Walk.{lesser, AlikeTo}
+use Rattle.places.proofs.order_after.Given as goal
+
+abbrev pub invariant-loop-i : goal.invariant-loop-i
+invariant-loop-i l = (l.n ≡ lesser (length l.a) (length l.b)) × AlikeTo l.a l.b l.i
+
+abbrev pub decreases-loop-i : goal.decreases-loop-i
+decreases-loop-i l = l.n - l.i

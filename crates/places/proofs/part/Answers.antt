@@ -1,0 +1,25 @@
+-- `places::part` meets its contract. Assumes nothing.
+use native.Mathlib.Omega.{arith}
+use mathlib.Core.Path.{sym, ◌∙◌, ap}
+use Rattle.places.specs.Finding.{place_found}
+use Rattle.places.proofs.Finding.{found_inside, part_at, part_none}
+use Rattle.places.proofs.part.Goals as goal
+
+pub overflow_add-end : goal.overflow_add-end
+overflow_add-end c = omega (arith, (found_inside c.args.name.now c.args.places.now (λ i. omega (arith, c.type_inv.places i)) c.in-At.s.0.0 (sym c.find.ensures ∙ ap place_found c.in-At.s.1)), c.well_formed)
+
+pub overflow_add-end-in-At : goal.overflow_add-end-in-At
+overflow_add-end-in-At c = omega (arith, (found_inside c.args.name.now c.args.places.now (λ i. omega (arith, c.type_inv.places i)) c.in-At.s.0.0 (sym c.find.ensures ∙ ap place_found c.in-At.s.1)), c.well_formed)
+
+pub slice_bounds-result-end : goal.slice_bounds-result-end
+slice_bounds-result-end c = omega (arith, (found_inside c.args.name.now c.args.places.now (λ i. omega (arith, c.type_inv.places i)) c.in-At.s.0.0 (sym c.find.ensures ∙ ap place_found c.in-At.s.1)))
+
+pub returns-in-At : goal.returns-in-At
+returns-in-At c = let s = c.args in
+    part_at s.name.now s.places.now c.in-At.s.0.0 (sym c.find.ensures ∙ ap place_found c.in-At.s.1)
+
+pub returns-in-BadlyFormed : goal.returns-in-BadlyFormed
+returns-in-BadlyFormed c = let s = c.before.before.before.before.before.before.args in part_none s.name.now s.places.now _ (sym c.before.before.before.find.ensures ∙ ap place_found c.before.enum_told.given.1)
+
+pub returns-in-NotInBook : goal.returns-in-NotInBook
+returns-in-NotInBook c = let s = c.before.before.before.before.before.before.args in part_none s.name.now s.places.now _ (sym c.before.before.before.find.ensures ∙ ap place_found c.before.enum-told2.given.1)

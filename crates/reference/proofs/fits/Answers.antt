@@ -1,0 +1,13 @@
+-- `reference::fits` meets its contract. Assumes nothing.
+use mathlib.Core.Path.{◌∙◌, ap}
+use mir.Syntax.{w32}
+use mir.Facts.{to_z-of_z}
+use Rattle.grid.specs.Units.{index}
+use Rattle.reference.proofs.Parts.{fit_coarse, fit_fine}
+use Rattle.reference.proofs.fits.Goals as goal
+
+pub returns-then-c-lt5 : goal.returns-then-c-lt5
+returns-then-c-lt5 c = fit_coarse c.args.c c.if-c-lt5.true
+
+pub returns : goal.returns
+returns c = fit_fine c.args.c c.if-c-lt5.false (c.outward.ensures ∙ ap index (to_z-of_z {w = w32} {z = c.args.c.south} (record { sfits = c.struct_told-1.given.1.1.0.1 })))

@@ -1,0 +1,12 @@
+-- `reference::offset_of` meets its contract. Assumes nothing.
+use Rattle.reference.proofs.Parts.{same_span, too_far_east, too_far_north, near_both}
+use Rattle.reference.proofs.offset_of.Goals as goal
+
+pub returns-then-m-gt16 : goal.returns-then-m-gt16
+returns-then-m-gt16 c = (too_far_east _ _ ((let s = c.args in same_span s.b.width s.b.west s.t.west c.span-m.ensures (record { sfits = c.struct_told-1.given.1.0.1 }) (record { sfits = c.struct_told-2-1.given.1.0.1 }))) c.if-m-gt16.true c.refuse.ensures, tt)
+
+pub returns-then-n-gt16 : goal.returns-then-n-gt16
+returns-then-n-gt16 c =     (too_far_north _ _ ((let s = c.args in same_span s.b.width s.b.west s.t.west c.span-m.ensures (record { sfits = c.struct_told-1.given.1.0.1 }) (record { sfits = c.struct_told-2-1.given.1.0.1 }))) c.if-m-gt16.false ((let s = c.args in same_span s.b.height s.b.south s.t.south c.span-n.ensures (record { sfits = c.struct_told-3-1.given.1.1.0.1 }) (record { sfits = c.struct_told-4-1.given.1.1.0.1 }))) c.if-n-gt16.true c.refuse-then-n-gt16.ensures, tt)
+
+pub returns : goal.returns
+returns c =     (near_both _ _ ((let s = c.args in same_span s.b.width s.b.west s.t.west c.span-m.ensures (record { sfits = c.struct_told-1.given.1.0.1 }) (record { sfits = c.struct_told-2-1.given.1.0.1 }))) c.if-m-gt16.false ((let s = c.args in same_span s.b.height s.b.south s.t.south c.span-n.ensures (record { sfits = c.struct_told-3-1.given.1.1.0.1 }) (record { sfits = c.struct_told-4-1.given.1.1.0.1 }))) c.if-n-gt16.false, (c.if-m-gt16.false, c.if-n-gt16.false))

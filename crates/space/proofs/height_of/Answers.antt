@@ -1,0 +1,33 @@
+-- `space::height_of` meets its contract. Assumes nothing.
+use mathlib.Core.Path.{ap}
+use native.Mathlib.Omega.{arith}
+use mir.Syntax.{w32}
+use mir.Facts.{to_z-of_z}
+use Rattle.grid.specs.Layers.{product}
+use Rattle.layers.specs.inner.Editions.{radices_of}
+use Rattle.space.specs.inner.Parts.{heights_in}
+use Rattle.space.proofs.Reading.{lying, height_few, height_stands}
+use Rattle.space.proofs.height_of.Goals as goal
+
+pub read-requires : goal.read-requires
+read-requires c = let d = c.requires in record { some_level = d.some; ten_levels = d.most; room = omega (arith, d.long) }
+
+pub floor-requires : goal.floor-requires
+floor-requires c = let r = c in
+    lying c.args.second c.args.level _ (answered r c.in-Found.above.1)
+
+pub height_place-requires : goal.height_place-requires
+height_place-requires c = omega (arith, (let r = c in height_few c.args.second c.args.level c.args.code.now c.requires.some c.requires.most (answered r c.in-Bad.p.1)), c.requires.most)
+
+pub returns-in-Found : goal.returns-in-Found
+returns-in-Found c = let r = c in
+    let top = product (radices_of c.args.second) in (
+      rw (to_z-of_z {w = w32} {z = c.floor.result} (record { sfits = c.floor.type-inv }), c.floor.ensures c.in-Found.above.0.1.1.0)
+          (ap (heights_in top) (answered r c.in-Found.above.1)),
+      tt,
+    )
+
+pub returns-in-Bad : goal.returns-in-Bad
+returns-in-Bad c = let r = c in
+    rw c.height_place.ensures
+    (ap (heights_in (product (radices_of c.args.second))) (answered r c.in-Bad.p.1), height_stands c.requires ((let r = c in height_few c.args.second c.args.level c.args.code.now c.requires.some c.requires.most (answered r c.in-Bad.p.1))))

@@ -1,0 +1,30 @@
+-- `space::write_at` meets its contract. Assumes nothing.
+use mathlib.Core.Path.{sym, ◌∙◌, ap}
+use mathlib.Core.List.{List}
+use Prim.Native.Nat.{ℕ}
+use mir.Facts.{to_z-of_z}
+use Rattle.grid.specs.Units.{Square}
+use Rattle.grid.specs.Answers.{Answer}
+use Rattle.grid.specs.Laying.{laid}
+use Rattle.grid.proofs.Answers.{then_accepted, then_refused}
+use Rattle.grid.proofs.Laying.{laid_refused}
+use Rattle.plane.proofs.Asking.{position_at, position_refused, position_fits}
+use Rattle.layers.specs.inner.Editions.{radices_of}
+use Rattle.space.specs.Space.{layered_text}
+use Rattle.space.proofs.write_at.Goals as goal
+
+pub write_over-requires : goal.write_over-requires
+write_over-requires c = let a = c in
+    let k = position_fits 1 c.args.longitude c.args.latitude (asked a) c.in-At.p.1 in
+    (c.requires.0, c.requires.1, k.0, k.1)
+
+pub returns-in-At : goal.returns-in-At
+returns-in-At c = let a = c in
+    rw (to_z-of_z c.ranges.layer) at c.write_over.ensures
+    ∙ ap (λ (t : Answer (List ℕ)). laid t c.args.line.now c.args.at)
+    (then_accepted (λ (q : Square). layered_text (radices_of c.args.second) c.args.l q c.args.layer) (position_at (asked a) c.in-At.p.1))
+
+pub returns-in-Refused : goal.returns-in-Refused
+returns-in-Refused c = let a = c in
+    laid_refused c.args.line.now c.args.at
+    (sym (then_refused (λ (q : Square). layered_text (radices_of c.args.second) c.args.l q c.args.layer) (position_refused (asked a) c.in-Refused.r.1)))
