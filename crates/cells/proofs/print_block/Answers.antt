@@ -1,10 +1,15 @@
 -- `cells::print_block` meets its contract. The measure is what is left of the block. Assumes nothing.
-use Prim.Native.Nat.{◌-◌}
+use Prim.Native.Nat.{◌+◌, ◌-◌, ◌<◌}
 use native.Mathlib.Omega.{arith}
 use borrow.Author.Rules.{rules}
 use borrow.Author.Tests.{not-true}
-use Rattle.cells.proofs.Blocks.{not_both, begins, goes_on, ends}
+use Rattle.cells.proofs.Blocks.{not_both, Came, begins, goes_on, ends}
 use Rattle.cells.proofs.print_block.Goals as goal
+use Rattle.cells.proofs.print_block.Goals.{After-print_some-p}
+
+-- a part more has been printed
+more : (c : After-print_some-p) → let s = c.args in let p = c.print_some-p in Came s.block.now s.held s.line.now s.out.now (c.loop-next.next + p.result.next) p.result.held p.new.1.1.0 p.new.1.1.1.0 × (0 < p.result.next)
+more c = goes_on c.loop-next.invariant c.loop-next-test.true c.print_some-p.ensures
 
 pub loop-next-init : goal.loop-next-init
 loop-next-init c = begins _ c.requires
@@ -19,22 +24,22 @@ pub print_some-p-requires : goal.print_some-p-requires
 print_some-p-requires c = c.loop-next.invariant.lent
 
 pub shape_of-line-then-not-p : goal.shape_of-line-then-not-p
-shape_of-line-then-not-p c = ((goes_on c.loop-next.invariant c.loop-next-test.true c.print_some-p.ensures)).0.same_line
+shape_of-line-then-not-p c = (more (goal.at.shape_of-line-then-not-p c).After-print_some-p).0.same_line
 
 pub shape_of-out-then-not-p : goal.shape_of-out-then-not-p
-shape_of-out-then-not-p c = ((goes_on c.loop-next.invariant c.loop-next-test.true c.print_some-p.ensures)).0.same_out
+shape_of-out-then-not-p c = (more (goal.at.shape_of-out-then-not-p c).After-print_some-p).0.same_out
 
 pub returns-then-not-p : goal.returns-then-not-p
-returns-then-not-p c = let m = ((goes_on c.loop-next.invariant c.loop-next-test.true c.print_some-p.ensures)).0 in (m.lent.few, ends m _ (λ e. not_both e (not-true _ c.if-not-p.true)))
+returns-then-not-p c = let m = (more (goal.at.returns-then-not-p c).After-print_some-p).0 in (m.lent.few, ends m _ (λ e. not_both e (not-true _ c.if-not-p.true)))
 
 pub overflow_add-next : goal.overflow_add-next
-overflow_add-next c = omega (arith, ((goes_on c.loop-next.invariant c.loop-next-test.true c.print_some-p.ensures)).0.inside, c.well_formed)
+overflow_add-next c = omega (arith, (more (goal.at.overflow_add-next c).After-print_some-p).0.inside, c.well_formed)
 
 pub loop-next-smaller : goal.loop-next-smaller
-loop-next-smaller c = omega (arith, ((goes_on c.loop-next.invariant c.loop-next-test.true c.print_some-p.ensures)).1, ((goes_on c.loop-next.invariant c.loop-next-test.true c.print_some-p.ensures)).0.inside)
+loop-next-smaller c = omega (arith, (more (goal.at.loop-next-smaller c).After-print_some-p).1, (more (goal.at.loop-next-smaller c).After-print_some-p).0.inside)
 
 pub loop-next-preserved : goal.loop-next-preserved
-loop-next-preserved c = ((goes_on c.loop-next.invariant c.loop-next-test.true c.print_some-p.ensures)).0
+loop-next-preserved c = (more (goal.at.loop-next-preserved c).After-print_some-p).0
 
 pub shape_of-line : goal.shape_of-line
 shape_of-line c = c.loop-next.invariant.same_line

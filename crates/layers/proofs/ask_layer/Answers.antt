@@ -14,4 +14,4 @@ pub ask_over-requires : goal.ask_over-requires
 ask_over-requires c = fair_by c.args.second c.radices_of.ensures
 
 pub returns : goal.returns
-returns c =     c.ask_over.ensures ∙ ap (λ (rs : List ℕ). asked_of rs (to_z w64 (of_z w64 c.args.layer))) c.radices_of.ensures ∙ ap (asked_of (radices_of c.args.second)) (to_z-of_z c.ranges.layer)
+returns c = c.ask_over.ensures ∙ ap (λ (rs : List ℕ). asked_of rs (to_z w64 (of_z w64 c.args.layer))) c.radices_of.ensures ∙ ap (asked_of (radices_of c.args.second)) (to_z-of_z c.ranges.layer)

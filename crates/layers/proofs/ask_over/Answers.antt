@@ -3,10 +3,10 @@ use Rattle.layers.proofs.Sides.{asked_outside, asked_below, asked_above}
 use Rattle.layers.proofs.ask_over.Goals as goal
 
 pub returns-then-top-n : goal.returns-then-top-n
-returns-then-top-n c =     asked_outside c.args.rs c.ranges.layer c.thickness-top.ensures c.outward-n.ensures c.refuse.ensures c.if-top-n.true
+returns-then-top-n c = asked_outside c.args.rs c.ranges.layer c.thickness-top.ensures c.outward-n.ensures c.refuse.ensures c.if-top-n.true
 
 pub returns-then-layer-lt0 : goal.returns-then-layer-lt0
-returns-then-layer-lt0 c =     asked_below c.args.rs c.ranges.layer c.thickness-top.ensures c.outward-n.ensures c.below_ground.ensures c.if-top-n.false c.if-layer-lt0.true
+returns-then-layer-lt0 c = asked_below c.args.rs c.ranges.layer c.thickness-top.ensures c.outward-n.ensures c.below_ground.ensures c.if-top-n.false c.if-layer-lt0.true
 
 pub returns-else-layer-lt0 : goal.returns-else-layer-lt0
-returns-else-layer-lt0 c =     asked_above c.args.rs c.ranges.layer c.thickness-top.ensures c.outward-n.ensures c.if-top-n.false c.if-layer-lt0.false
+returns-else-layer-lt0 c = asked_above c.args.rs c.ranges.layer c.thickness-top.ensures c.outward-n.ensures c.if-top-n.false c.if-layer-lt0.false

@@ -17,4 +17,4 @@ pub bounds-line-height_place-3 : goal.bounds-line-height_place-3
 bounds-line-height_place-3 c = simp length-set (place_in 1 2 (omega arith) c.requires.1 (omega arith) c.height_place-3.ensures)
 
 pub returns : goal.returns
-returns c =     first_stored c.args.above c.args.n c.args.line.now c.height_place.ensures c.height_place-2.ensures c.height_place-3.ensures c.sign_of.ensures (char_decimal (c.args.n / 10) (omega (arith, c.requires.0))) (char_decimal (c.args.n % 10) (omega arith))
+returns c = first_stored c.args.above c.args.n c.args.line.now c.height_place.ensures c.height_place-2.ensures c.height_place-3.ensures c.sign_of.ensures (char_decimal (c.args.n / 10) (omega (arith, c.requires.0))) (char_decimal (c.args.n % 10) (omega arith))

@@ -9,7 +9,7 @@ use Rattle.layers.proofs.Radices.{fair_by}
 use Rattle.layers.proofs.read.Goals as goal
 
 pub read_over-requires : goal.read_over-requires
-read_over-requires c =  (fair_by c.args.second c.radices_of.ensures, c.requires)
+read_over-requires c = (fair_by c.args.second c.radices_of.ensures, c.requires)
 
 pub returns : goal.returns
-returns c =     c.read_over.ensures ∙ ap (λ (rs : List ℕ). height_read rs c.args.level (map digit_of (standing c.args.level c.args.code.now))) c.radices_of.ensures
+returns c = c.read_over.ensures ∙ ap (λ (rs : List ℕ). height_read rs c.args.level (map digit_of (standing c.args.level c.args.code.now))) c.radices_of.ensures

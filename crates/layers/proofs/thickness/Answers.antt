@@ -28,8 +28,8 @@ bounds-rs-i c = omega arith
 
 pub overflow_mul-t : goal.overflow_mul-t
 overflow_mul-t c = let f = c.requires.0 in
-    let e = turned c.args.t1 _ _ f (omega arith) c.loop-i.invariant.1 c.loop-i.invariant.2 in
-    record { fits = rw e (omega (arith, thick_fits c.args.t1 (c.loop-i.i - 1) f)) }
+    let e = turned c.args.rs _ _ f (omega arith) c.loop-i.invariant.1 c.loop-i.invariant.2 in
+    record { fits = rw e (omega (arith, thick_fits c.args.rs (c.loop-i.i - 1) f)) }
 
 pub loop-i-smaller : goal.loop-i-smaller
 loop-i-smaller c = omega arith

@@ -1,10 +1,20 @@
 -- `plane::ask_position` meets its contract, case by case. Assumes nothing.
-use Rattle.std.proofs.Common.{sym, ap, ◌∙◌}
+use Rattle.std.proofs.Common.{◌≡◌, true, false, sym, ap, ◌∙◌, to_z-of_z}
+use Rattle.grid.specs.Units.{HALF, QUARTER}
 use Rattle.grid.specs.Answers.{refused, refusal, about}
+use Rattle.grid.specs.Ends.{unit_in}
+use Rattle.grid.specs.declared.Refusal.{Refusal}
 use Rattle.grid.proofs.Answers.{then_accepted, then_refused}
 use Rattle.plane.specs.Text.{square_in}
 use Rattle.plane.specs.inner.Asking.{standing_answer}
 use Rattle.plane.proofs.ask_position.Goals as goal
+
+-- what either number comes to, whatever its refusal
+longitude : (c : tie.After-stands-for) (r : Refusal) → standing_answer r c.stands-for.result ≡ unit_in r HALF false c.before.args.longitude
+longitude c r = c.stands-for.ensures r ∙ ap (unit_in r HALF false) (to_z-of_z c.before.ranges.longitude)
+
+latitude : (c : tie.After-stands-for2) (r : Refusal) → standing_answer r c.stands-for2.result ≡ unit_in r QUARTER true c.before.before.before.before.before.args.latitude
+latitude c r = c.stands-for2.ensures r ∙ ap (unit_in r QUARTER true) (to_z-of_z c.before.before.before.before.before.ranges.latitude)
 
 pub returns-in-Outside : goal.returns-in-Outside
 unfolding square_in

@@ -1,21 +1,27 @@
 -- `plane::read_in_space` meets its contract. Assumes nothing.
-use Rattle.std.proofs.Common.{ℕ, true, List, length, sym, ap, ◌∙◌, subst, arith}
+use Rattle.std.proofs.Common.{◌≡◌, true, map, length, take, sym, ap, ◌∙◌, subst, arith}
+use Rattle.grid.specs.Characters.{digit_of}
 use Rattle.grid.specs.Plane.{globe_child}
+use Rattle.grid.specs.Tree.{bad}
 use Rattle.grid.specs.inner.Standing.{plane_in}
 use Rattle.grid.proofs.Standing.{plane_long, has_inside}
 use Rattle.plane.specs.inner.Start.{first_read, Ranged}
 use Rattle.plane.proofs.Start.{first_digits_law}
 use Rattle.plane.proofs.Reading.{Leveled, leveled_at, read_rest, four_in, first_has, first_refused}
 use Rattle.plane.proofs.read_in_space.Goals as goal
+use Rattle.plane.proofs.read_in_space.Goals.{After-begin, In-Bad-2, Start}
 
--- the plane code among the characters
-abbrev flat : tie.Start → List ℕ
-flat s = plane_in true s.args.level s.args.code.now
+-- the first bad one of the four
+bad_first : (c : In-Bad-2) → bad c.in-Bad.place.0.0 ≡ globe_child (take 4 (map digit_of ((plane_in true c.args.level c.args.code.now))))
+bad_first c = ap first_read (sym c.in-Bad.place.1) ∙ (let it : first_read c.begin.result ≡ globe_child (take 4 (map digit_of ((plane_in true c.args.level c.args.code.now)))) = c.begin.ensures.0 ∙ ap globe_child (sym (first_digits_law true c.args.level c.args.code.now c.requires.some c.requires.most c.requires.long)) in it)
 
-known : (s : tie.Start) → Leveled (length (flat s)) s.args.level
-known s =
-    let p = s.requires in
-    leveled_at (length (flat s)) s.args.level p.some p.most (plane_long s.args.level s.args.code.now p.some p.most true p.long)
+known : (c : Start) → Leveled (length ((plane_in true c.args.level c.args.code.now))) c.args.level
+known c = let p = c.requires in
+    leveled_at (length ((plane_in true c.args.level c.args.code.now))) c.args.level p.some p.most (plane_long c.args.level c.args.code.now p.some p.most true p.long)
+
+-- the first four characters lead where they should
+led : (c : After-begin) → first_read c.begin.result ≡ globe_child (take 4 (map digit_of ((plane_in true c.args.level c.args.code.now))))
+led c =     c.begin.ensures.0 ∙ ap globe_child (sym (first_digits_law true c.args.level c.args.code.now c.requires.some c.requires.most c.requires.long))
 
 pub begin-requires : goal.begin-requires
 begin-requires c =  omega (arith, c.requires.long, four_in c.args.level c.requires.some c.requires.most)
@@ -26,15 +32,15 @@ rest_in_space-requires c = let p = c.requires in
     record { some_level = p.some; last_level = p.most; some_zone = r.0; last_zone = r.1; last_row = r.2; length_is = p.long }
 
 pub wrong_in-requires : goal.wrong_in-requires
-wrong_in-requires c =     has_inside (first_has true c.args.level c.args.code.now c.requires.some c.requires.most c.requires.long ((ap first_read (sym c.in-Bad.place.1) ∙ (c.begin.ensures.0 ∙ ap globe_child (sym (first_digits_law true c.args.level c.args.code.now c.requires.some c.requires.most c.requires.long))))))
+wrong_in-requires c =     has_inside (first_has true c.args.level c.args.code.now c.requires.some c.requires.most c.requires.long (bad_first (goal.at.wrong_in-requires c).In-Bad-2))
 
 pub returns-in-Sheet : goal.returns-in-Sheet
 returns-in-Sheet c = let s = c in
-    read_rest (flat s) (known s) (ap first_read (sym c.in-Sheet.north.1) ∙ (c.begin.ensures.0 ∙ ap globe_child (sym (first_digits_law true c.args.level c.args.code.now c.requires.some c.requires.most c.requires.long)))) c.rest_in_space.ensures
+    read_rest ((plane_in true c.args.level c.args.code.now)) (known (goal.at.returns-in-Sheet c).Start) (ap first_read (sym c.in-Sheet.north.1) ∙ led (goal.at.returns-in-Sheet c).After-begin) c.rest_in_space.ensures
 
 pub returns-in-Pole : goal.returns-in-Pole
 returns-in-Pole c = let s = c in
-    read_rest (flat s) (known s) (ap first_read (sym c.in-Pole.north.1) ∙ (c.begin.ensures.0 ∙ ap globe_child (sym (first_digits_law true c.args.level c.args.code.now c.requires.some c.requires.most c.requires.long)))) c.rest_in_space-in-Pole.ensures
+    read_rest ((plane_in true c.args.level c.args.code.now)) (known (goal.at.returns-in-Pole c).Start) (ap first_read (sym c.in-Pole.north.1) ∙ led (goal.at.returns-in-Pole c).After-begin) c.rest_in_space-in-Pole.ensures
 
 pub returns-in-Bad : goal.returns-in-Bad
-returns-in-Bad c =     first_refused true c.args.level c.args.code.now c.requires.some c.requires.most c.requires.long ((ap first_read (sym c.in-Bad.place.1) ∙ (c.begin.ensures.0 ∙ ap globe_child (sym (first_digits_law true c.args.level c.args.code.now c.requires.some c.requires.most c.requires.long))))) c.wrong_in.ensures
+returns-in-Bad c =     first_refused true c.args.level c.args.code.now c.requires.some c.requires.most c.requires.long (bad_first (goal.at.returns-in-Bad c).In-Bad-2) c.wrong_in.ensures

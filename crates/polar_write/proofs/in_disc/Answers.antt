@@ -8,10 +8,10 @@ pub to_cap-requires : goal.to_cap-requires
 to_cap-requires c = cap_lies c.requires.0 (omega arith)
 
 pub to_disc-requires : goal.to_disc-requires
-to_disc-requires c =     disc_lies c.requires.0 refl c.requires.1 (omega arith) c.eastward_of-e.ensures (omega arith) (λ h. omega arith)
+to_disc-requires c = disc_lies c.requires.0 refl c.requires.1 (omega arith) c.eastward_of-e.ensures (omega arith) (λ h. omega arith)
 
 pub to_disc-requires-then-e-west_of-2 : goal.to_disc-requires-then-e-west_of-2
-to_disc-requires-then-e-west_of-2 c =     disc_lies c.requires.0 refl c.requires.1 (omega arith) c.eastward_of-e.ensures (omega arith) (λ h. omega arith)
+to_disc-requires-then-e-west_of-2 c = disc_lies c.requires.0 refl c.requires.1 (omega arith) c.eastward_of-e.ensures (omega arith) (λ h. omega arith)
 
 pub to_disc-requires-2 : goal.to_disc-requires-2
-to_disc-requires-2 c =     disc_lies c.requires.0 refl c.requires.1 (omega arith) c.eastward_of-e.ensures (omega arith) (λ h. omega arith)
+to_disc-requires-2 c = disc_lies c.requires.0 refl c.requires.1 (omega arith) c.eastward_of-e.ensures (omega arith) (λ h. omega arith)

@@ -14,4 +14,4 @@ pub bounds-line-at-3 : goal.bounds-line-at-3
 bounds-line-at-3 c = simp length-set (omega (arith, c.zone_place-at.ensures, c.requires))
 
 pub returns : goal.returns
-returns c =  pole_stored c.args.spaced c.args.north c.args.line.now c.hemisphere.ensures c.zone_place-at.ensures
+returns c = pole_stored c.args.spaced c.args.north c.args.line.now c.hemisphere.ensures c.zone_place-at.ensures

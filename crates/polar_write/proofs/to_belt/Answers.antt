@@ -16,5 +16,5 @@ pub overflow_sub-result-2 : goal.overflow_sub-result-2
 overflow_sub-result-2 c = let s = c.requires in omega (arith, belt_y s.1 s.0 c.polar_cell-c.ensures)
 
 pub returns : goal.returns
-returns c =     let s = c.requires in
+returns c = let s = c.requires in
     belt_begun s.1 s.0 c.polar_cell-c.ensures c.corner_of.ensures c.high.ensures

@@ -16,4 +16,4 @@ overflow_add-b c = end_fits c.ranges.g c.ranges.m
 
 pub returns : goal.returns
 returns c = let s = c.ranges in
-    runs_answered s.f s.g s.n s.m (record { sfits = c.higher.type-inv }) (record { sfits = c.lower.type-inv }) c.higher.ensures c.lower.ensures
+    runs_answered s.f s.g s.n s.m (record { sfits = c.higher.type_inv }) (record { sfits = c.lower.type_inv }) c.higher.ensures c.lower.ensures

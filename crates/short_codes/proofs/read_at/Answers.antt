@@ -7,4 +7,4 @@ use Rattle.short_codes.proofs.read_at.Goals as goal
 pub returns : goal.returns
 returns c = let p = c.args.s in
     let u : p.start + p.name + p.code - (p.start + p.name) ≡ p.code = omega arith in
-    rw u at c.before.before.read_by_lem.ensures
+    rw u at c.read_by.ensures

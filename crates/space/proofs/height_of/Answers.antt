@@ -1,13 +1,30 @@
 -- `space::height_of` meets its contract. Assumes nothing.
-use mathlib.Core.Path.{ap}
+use mathlib.Core.Path.{◌≡◌, sym, ◌∙◌, ap}
+use mathlib.Core.List.{map}
+use Prim.Native.Nat.{◌+◌, ◌<◌}
 use native.Mathlib.Omega.{arith}
 use mir.Syntax.{w32}
 use mir.Facts.{to_z-of_z}
+use Rattle.grid.specs.Characters.{digit_of}
 use Rattle.grid.specs.Layers.{product}
+use Rattle.layers.specs.declared.LayersRead.{LayersRead}
 use Rattle.layers.specs.inner.Editions.{radices_of}
+use Rattle.layers.specs.inner.Steps.{standing}
+use Rattle.layers.specs.Heights.{height_read, layers_read}
 use Rattle.space.specs.inner.Parts.{heights_in}
 use Rattle.space.proofs.Reading.{lying, height_few, height_stands}
 use Rattle.space.proofs.height_of.Goals as goal
+use Rattle.space.proofs.height_of.Goals.{In-Bad-2}
+
+-- what was read of the height characters
+answered : (c : tie.After-read) {h : LayersRead} → c.read.result ≡ h
+    → let s = c.before.before in layers_read h ≡ height_read (radices_of s.args.second) s.args.level (map digit_of (standing s.args.level s.args.code.now))
+answered c e = ap layers_read (sym e) ∙ c.read.ensures
+
+-- the bad character is one of the level's
+few : (c : In-Bad-2) → c.in-Bad.p.0.0 < 2 + c.args.level
+few c = let r = c in
+    height_few c.args.second c.args.level c.args.code.now c.requires.some c.requires.most (answered r c.in-Bad.p.1)
 
 pub read-requires : goal.read-requires
 read-requires c = let d = c.requires in record { some_level = d.some; ten_levels = d.most; room = omega (arith, d.long) }
@@ -17,12 +34,12 @@ floor-requires c = let r = c in
     lying c.args.second c.args.level _ (answered r c.in-Found.above.1)
 
 pub height_place-requires : goal.height_place-requires
-height_place-requires c = omega (arith, (let r = c in height_few c.args.second c.args.level c.args.code.now c.requires.some c.requires.most (answered r c.in-Bad.p.1)), c.requires.most)
+height_place-requires c = omega (arith, few (goal.at.height_place-requires c).In-Bad-2, c.requires.most)
 
 pub returns-in-Found : goal.returns-in-Found
 returns-in-Found c = let r = c in
     let top = product (radices_of c.args.second) in (
-      rw (to_z-of_z {w = w32} {z = c.floor.result} (record { sfits = c.floor.type-inv }), c.floor.ensures c.in-Found.above.0.1.1.0)
+      rw (to_z-of_z {w = w32} {z = c.floor.result} (record { sfits = c.floor.type_inv }), c.floor.ensures c.in-Found.above.0.1.1.0)
           (ap (heights_in top) (answered r c.in-Found.above.1)),
       tt,
     )
@@ -30,4 +47,4 @@ returns-in-Found c = let r = c in
 pub returns-in-Bad : goal.returns-in-Bad
 returns-in-Bad c = let r = c in
     rw c.height_place.ensures
-    (ap (heights_in (product (radices_of c.args.second))) (answered r c.in-Bad.p.1), height_stands c.requires ((let r = c in height_few c.args.second c.args.level c.args.code.now c.requires.some c.requires.most (answered r c.in-Bad.p.1))))
+    (ap (heights_in (product (radices_of c.args.second))) (answered r c.in-Bad.p.1), height_stands c.requires (few (goal.at.returns-in-Bad c).In-Bad-2))

@@ -8,7 +8,7 @@ pub wrong_in-requires : goal.wrong_in-requires
 wrong_in-requires c = has_inside (c.requires.1 (not-true _ c.if-not-self.true))
 
 pub returns-then-not-self : goal.returns-then-not-self
-returns-then-not-self c =     let bad = not-true _ c.if-not-self.true in
+returns-then-not-self c = let bad = not-true _ c.if-not-self.true in
     answer_refused c.args.spaced c.args.level c.args.code.now c.args.self bad (c.requires.1 bad) c.wrong_in.ensures
 
 pub cell-requires : goal.cell-requires

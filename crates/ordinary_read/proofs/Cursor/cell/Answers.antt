@@ -14,5 +14,5 @@ least_on-requires-2 c = let i = c.requires in (i.some_height, omega (arith, i.al
 
 pub returns : goal.returns
 returns c = cell_found _ c.args.self
-    (to_z-of_z {w = w32} {z = c.least_on.result} (record { sfits = c.least_on.type-inv }) ∙ c.least_on.ensures)
-    (to_z-of_z {w = w32} {z = c.least_on-2.result} (record { sfits = c.least_on-2.type-inv }) ∙ c.least_on-2.ensures)
+    (to_z-of_z {w = w32} {z = c.least_on.result} (record { sfits = c.least_on.type_inv }) ∙ c.least_on.ensures)
+    (to_z-of_z {w = w32} {z = c.least_on-2.result} (record { sfits = c.least_on-2.type_inv }) ∙ c.least_on-2.ensures)

@@ -17,5 +17,5 @@ wrong_in-requires c = has_inside (c.requires.1 c.if-self.false)
 
 pub returns : goal.returns
 unfolding polar_answer
-returns c =     let g = c.if-self.false in
+returns c = let g = c.if-self.false in
     ap refused (c.wrong_in.ensures ∙ ap (wrong_character c.args.self.place) (sym (has_same (c.requires.1 g)))) ∙ simp g
