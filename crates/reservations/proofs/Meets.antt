@@ -1,7 +1,7 @@
 -- What the functions behind the conflict test answer, for each way out of them.
 -- Assumes nothing.
 use mathlib.Core.Path.{◌≡◌, refl, sym, ◌∙◌}
-use mathlib.Core.Bool.{Bool, true, false, ◌&&◌, and-false, and_true as and_right}
+use mathlib.Core.Bool.{Bool, true, false, ◌&&◌, and-false, and-true as and_right}
 use Prim.Native.Nat.{ℕ, ◌≤◌, ◌<◌}
 use native.Mathlib.Omega.{arith}
 use lib.Dec.{ltb}

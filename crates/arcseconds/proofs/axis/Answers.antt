@@ -35,22 +35,22 @@ bits_lt : (c : Start) → (to_bits binary64 c.args.x) < 2 * 2 ^ 63
 bits_lt c = to_bits-lt binary64 c.args.x ((let it : T (fits binary64 c.args.x) = subst T (sym c.well_formed.0.1) tt in it))
 
 pub returns-then-size-eq0 : goal.returns-then-size-eq0
-returns-then-size-eq0 c = let s = c in
+returns-then-size-eq0 c n = let s = c in
     reads_zero n c.args.half c.requires.1 c.requires.2 ((to_bits binary64 c.args.x)) c.if-size-eq0.true ∙ back n s
 
 pub returns-then-exponent-ge1043 : goal.returns-then-exponent-ge1043
-returns-then-exponent-ge1043 c = let s = c in
+returns-then-exponent-ge1043 c n = let s = c in
     reads_far n c.args.half c.requires.1 c.requires.2 ((to_bits binary64 c.args.x)) c.if-exponent-ge1043.true ∙ back n s
 
 pub overflow_sub-digits : goal.overflow_sub-digits
 overflow_sub-digits c = omega (arith, bits_lt (goal.at.overflow_sub-digits c).Start)
 
 pub returns-then-outward-half : goal.returns-then-outward-half
-returns-then-outward-half c = let s = c in
+returns-then-outward-half c n = let s = c in
     out n c.args.half c.requires.1 c.requires.2 (not (sign ((to_bits binary64 c.args.x)))) c.shifted-outward.result c.if-outward-half.true ∙ near n c
 
 pub returns-then-below-eq0 : goal.returns-then-below-eq0
-returns-then-below-eq0 c = let s = c in
+returns-then-below-eq0 c n = let s = c in
     east n c.args.half c.requires.1 c.requires.2 c.shifted-outward.result c.if-outward-half.false
     ∙ ap (λ (t : Bool). index_below n c.args.half (unit (not t) c.shifted-outward.result)) (sym (lt-leb (2 ^ 63) ((to_bits binary64 c.args.x)) (positive ((to_bits binary64 c.args.x)) c.if-below-eq0.true)))
     ∙ near n c
@@ -60,7 +60,7 @@ overflow_sub-result c = let s = c in
     minus_fits 0 c.args.half c.requires.1 c.requires.2 c.shifted-outward.result c.if-outward-half.false
 
 pub returns : goal.returns
-returns c = let s = c in
+returns c n = let s = c in
     west n c.args.half c.requires.1 c.requires.2 c.shifted-outward.result c.if-outward-half.false
     ∙ ap (λ (t : Bool). index_below n c.args.half (unit (not t) c.shifted-outward.result)) (sym (le-leb (2 ^ 63) ((to_bits binary64 c.args.x)) (negative ((to_bits binary64 c.args.x)) c.if-below-eq0.false)))
     ∙ near n c

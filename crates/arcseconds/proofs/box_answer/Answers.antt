@@ -22,7 +22,7 @@ unfolding BoxSays
 passed r f e = subst (λ (p : PlaneRead). BoxSays (plane_read p) (Refused f)) (sym e) refl
 
 pub returns-in-Found : goal.returns-in-Found
-returns-in-Found c = boxed _ _ _ c.in-Found.c.1 c.box_of.ensures
+returns-in-Found c = boxed _ _ _ c.in-Found.is c.box_of.ensures
 
 pub returns-in-Refused : goal.returns-in-Refused
-returns-in-Refused c = passed _ _ c.in-Refused.f.1
+returns-in-Refused c = passed _ _ c.in-Refused.is

@@ -16,7 +16,7 @@ returns-in-Outside c = ap refused c.refuse.ensures ∙ ap (λ (r : Reading). uni
 
 pub returns-in-Outside-latitude : goal.returns-in-Outside-latitude
 unfolding units_at
-returns-in-Outside-latitude c = ap refused c.refuse-in-Outside-latitude.ensures ∙ ap₂ (λ (r s : Reading). units_at (reading_answer 2 r) (reading_answer 3 s)) (sym c.in-Whole.u.1) (sym c.enum_told-in-Outside-latitude-1.given.1)
+returns-in-Outside-latitude c = ap refused c.refuse-in-Outside-latitude.ensures ∙ ap₂ (λ (r s : Reading). units_at (reading_answer 2 r) (reading_answer 3 s)) (sym c.in-Whole.is) (sym c.enum_told-in-Outside-latitude-1.given.1)
 
 pub returns-in-Whole-latitude : goal.returns-in-Whole-latitude
 unfolding units_at

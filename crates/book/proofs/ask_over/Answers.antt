@@ -19,4 +19,4 @@ returns-in-Found c =     let read = c.read.ensures in
 pub returns-in-Refused : goal.returns-in-Refused
 returns-in-Refused c = let s = c.args in
     let read = c.read.ensures in
-    c.ask_nothing.ensures ∙ ap to_add (then_refused (λ (y : Cell). reserved s.flight s.start s.end (over s.floor s.thickness y)) (sym read ∙ ap plane_read c.in-Refused.e.1))
+    c.ask_nothing.ensures ∙ ap to_add (then_refused (λ (y : Cell). reserved s.flight s.start s.end (over s.floor s.thickness y)) (sym read ∙ ap plane_read c.in-Refused.is))

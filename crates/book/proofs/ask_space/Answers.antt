@@ -11,10 +11,10 @@ pub returns-in-Found : goal.returns-in-Found
 unfolding space_record edition_in
 returns-in-Found c = let s = c.args in
     let read = c.read.ensures in
-    c.reserve.ensures ∙ ap to_add (then_accepted (λ (y : SpaceCell). reserved s.flight s.start s.end y) (sym read ∙ ap space_read c.in-Found.s.1))
+    c.reserve.ensures ∙ ap to_add (then_accepted (λ (y : SpaceCell). reserved s.flight s.start s.end y) (sym read ∙ ap space_read c.in-Found.is))
 
 pub returns-in-Refused : goal.returns-in-Refused
 unfolding space_record edition_in
 returns-in-Refused c = let s = c.args in
     let read = c.read.ensures in
-    c.ask_nothing.ensures ∙ ap to_add (then_refused (λ (y : SpaceCell). reserved s.flight s.start s.end y) (sym read ∙ ap space_read c.in-Refused.e.1))
+    c.ask_nothing.ensures ∙ ap to_add (then_refused (λ (y : SpaceCell). reserved s.flight s.start s.end y) (sym read ∙ ap space_read c.in-Refused.is))

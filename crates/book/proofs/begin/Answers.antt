@@ -13,4 +13,4 @@ pub returns-in-Release : goal.returns-in-Release
 returns-in-Release c = c.seen-in-Release.ensures ∙ begin_short c.args.q c.args.n c.if-n-gt-MOST.false c.enum_told-in-Release-1.given.1
 
 pub returns-in-Refused : goal.returns-in-Refused
-returns-in-Refused c = c.seen-in-Refused.ensures ∙ begin_short c.args.q c.args.n c.if-n-gt-MOST.false c.in-Refused.e.1
+returns-in-Refused c = c.seen-in-Refused.ensures ∙ begin_short c.args.q c.args.n c.if-n-gt-MOST.false c.in-Refused.is

@@ -13,4 +13,4 @@ pub returns-in-Release : goal.returns-in-Release
 returns-in-Release c = decide_short c.args.q c.args.v c.if-v-gt-MOST.false c.enum_told-in-Release-1.given.1 c.releasing.ensures
 
 pub returns-in-Refused : goal.returns-in-Refused
-returns-in-Refused c = decide_short c.args.q c.args.v c.if-v-gt-MOST.false c.in-Refused.e.1 refl
+returns-in-Refused c = decide_short c.args.q c.args.v c.if-v-gt-MOST.false c.in-Refused.is refl

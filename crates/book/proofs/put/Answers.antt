@@ -9,4 +9,4 @@ pub returns-in-Release : goal.returns-in-Release
 returns-in-Release c = rw (c.off.ensures, c.enum_told-in-Release-1.given.1) refl
 
 pub returns-in-Refused : goal.returns-in-Refused
-returns-in-Refused c = rw c.in-Refused.e.1 refl
+returns-in-Refused c = rw c.in-Refused.is refl

@@ -5,8 +5,8 @@ use Rattle.hailgully.proofs.booked_of.Goals as goal
 
 pub returns-in-At : goal.returns-in-At
 unfolding booked_for
-returns-in-At c = rw (c.in-At.k.1, c.no_refusal.ensures) refl
+returns-in-At c = rw (c.in-At.is, c.no_refusal.ensures) refl
 
 pub returns-in-Refused : goal.returns-in-Refused
 unfolding booked_for
-returns-in-Refused c = rw (c.in-Refused.r.1, c.refusal_of.ensures) refl
+returns-in-Refused c = rw (c.in-Refused.is, c.refusal_of.ensures) refl

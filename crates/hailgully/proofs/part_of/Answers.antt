@@ -6,7 +6,7 @@ use Rattle.hailgully.specs.Results.{part_for}
 use Rattle.hailgully.proofs.part_of.Goals as goal
 
 pub returns-in-At : goal.returns-in-At
-returns-in-At c = c.part_found.ensures ∙ ap (λ (f : Found). part_for (place_found f)) (sym c.in-At.s.1)
+returns-in-At c = c.part_found.ensures ∙ ap (λ (f : Found). part_for (place_found f)) (sym c.in-At.is)
 
 pub returns-in-BadlyFormed : goal.returns-in-BadlyFormed
 returns-in-BadlyFormed c = rw (c.part_refused.ensures, c.refuse.ensures, c.enum_told-1.given.1) refl

@@ -6,7 +6,7 @@ use Rattle.hailgully.specs.Results.{plane_cell_of}
 use Rattle.hailgully.proofs.plane_cell_of.Goals as goal
 
 pub returns-in-Found : goal.returns-in-Found
-returns-in-Found c = c.plane_found.ensures ∙ ap (λ (r : PlaneRead). plane_cell_of (plane_read r)) (sym c.in-Found.c.1)
+returns-in-Found c = c.plane_found.ensures ∙ ap (λ (r : PlaneRead). plane_cell_of (plane_read r)) (sym c.in-Found.is)
 
 pub returns-in-Refused : goal.returns-in-Refused
-returns-in-Refused c = c.plane_refused.ensures ∙ ap (λ (r : PlaneRead). plane_cell_of (plane_read r)) (sym c.in-Refused.q.1)
+returns-in-Refused c = c.plane_refused.ensures ∙ ap (λ (r : PlaneRead). plane_cell_of (plane_read r)) (sym c.in-Refused.is)

@@ -5,8 +5,8 @@ use Rattle.hailgully.proofs.written_of.Goals as goal
 
 pub returns-in-Bytes : goal.returns-in-Bytes
 unfolding written_of
-returns-in-Bytes c = rw (c.in-Bytes.n.1, c.no_refusal.ensures) refl
+returns-in-Bytes c = rw (c.in-Bytes.is, c.no_refusal.ensures) refl
 
 pub returns-in-Refused : goal.returns-in-Refused
 unfolding written_of
-returns-in-Refused c = rw (c.in-Refused.r.1, c.refusal_of.ensures) refl
+returns-in-Refused c = rw (c.in-Refused.is, c.refusal_of.ensures) refl

@@ -11,4 +11,4 @@ returns-in-Badly c = let s = c.args in
 pub returns-in-Holds : goal.returns-in-Holds
 returns-in-Holds c = let s = c.args in
     c.settled.ensures
-    ∙ find_holds s.name.now s.places.now (λ i. omega (arith, c.type_inv.places i)) (sym c.look.ensures ∙ c.in-Holds.v.1)
+    ∙ find_holds s.name.now s.places.now (λ i. omega (arith, c.type_inv.places i)) (sym c.look.ensures ∙ c.in-Holds.is)

@@ -6,25 +6,25 @@ use lib.ListN.{length}
 use Rattle.places.specs.Finding.{place_found}
 use Rattle.places.proofs.Finding.{found_inside, part_at, part_none}
 use Rattle.places.proofs.part.Goals as goal
-use Rattle.places.proofs.part.Goals.{In-At-2}
+use Rattle.places.proofs.part.Goals.{In-At}
 
 -- what was found lies in the book
-inside : (c : In-At-2) → c.in-At.s.0.0.start + c.in-At.s.0.0.name + c.in-At.s.0.0.code ≤ length c.args.places.now
-inside c = found_inside c.args.name.now c.args.places.now (λ i. omega (arith, c.type_inv.places i)) c.in-At.s.0.0
-    (sym c.find.ensures ∙ ap place_found c.in-At.s.1)
+inside : (c : In-At) → c.in-At.s.start + c.in-At.s.name + c.in-At.s.code ≤ length c.args.places.now
+inside c = found_inside c.args.name.now c.args.places.now (λ i. omega (arith, c.type_inv.places i)) c.in-At.s
+    (sym c.find.ensures ∙ ap place_found c.in-At.is)
 
 pub overflow_add-end : goal.overflow_add-end
-overflow_add-end c = omega (arith, inside (goal.at.overflow_add-end c).In-At-2, c.well_formed)
+overflow_add-end c = omega (arith, inside (goal.at.overflow_add-end c).In-At, c.well_formed)
 
 pub overflow_add-end-in-At : goal.overflow_add-end-in-At
-overflow_add-end-in-At c = omega (arith, inside (goal.at.overflow_add-end-in-At c).In-At-2, c.well_formed)
+overflow_add-end-in-At c = omega (arith, inside (goal.at.overflow_add-end-in-At c).In-At, c.well_formed)
 
 pub slice_bounds-result-end : goal.slice_bounds-result-end
-slice_bounds-result-end c = omega (arith, inside (goal.at.slice_bounds-result-end c).In-At-2)
+slice_bounds-result-end c = omega (arith, inside (goal.at.slice_bounds-result-end c).In-At)
 
 pub returns-in-At : goal.returns-in-At
 returns-in-At c = let s = c.args in
-    part_at s.name.now s.places.now c.in-At.s.0.0 (sym c.find.ensures ∙ ap place_found c.in-At.s.1)
+    part_at s.name.now s.places.now c.in-At.s (sym c.find.ensures ∙ ap place_found c.in-At.is)
 
 pub returns-in-BadlyFormed : goal.returns-in-BadlyFormed
 returns-in-BadlyFormed c = let s = c.before.before.before.before.before.before.args in part_none s.name.now s.places.now _ (sym c.before.before.before.find.ensures ∙ ap place_found c.before.enum_told.given.1)

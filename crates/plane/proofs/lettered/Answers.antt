@@ -15,5 +15,5 @@ pub returns-then-rows-d : goal.returns-then-rows-d
 returns-then-rows-d c = (letter_high _ _ _ (rows (goal.at.returns-then-rows-d c).After-split_of-rows) c.if-d-lt10.false c.if-rows-d.true, tt)
 
 pub returns : goal.returns
-returns c =     let e = rows (goal.at.returns c).After-split_of-rows in
+returns c = let e = rows (goal.at.returns c).After-split_of-rows in
     (letter_row _ _ _ e c.if-d-lt10.false c.if-rows-d.false, (c.requires.0, c.requires.1, omega arith))

@@ -10,15 +10,15 @@ use Rattle.plane.proofs.Start.{first_digits_law}
 use Rattle.plane.proofs.Reading.{Leveled, leveled, read_none, read_rest, length_four, first_has, first_refused}
 use Rattle.polar_read.proofs.rest.Reads as rest-reads'
 use Rattle.plane.proofs.read.Goals as goal
-use Rattle.plane.proofs.read.Goals.{After-begin, Else-level-eq0, In-Bad-2}
+use Rattle.plane.proofs.read.Goals.{After-begin, Else-level-eq0, In-Bad}
 
 -- the level that was found is the code's
 known : (c : Else-level-eq0) → Leveled (length c.args.code.now) c.level_of-level.result
 known c = leveled _ c.level_of-level.ensures c.if-level-eq0.false
 
 -- the first bad one of the four
-bad_first : (c : In-Bad-2) → bad c.in-Bad.place.0.0 ≡ globe_child (take 4 (map digit_of c.args.code.now))
-bad_first c = ap first_read (sym c.in-Bad.place.1) ∙ (let it : first_read c.begin.result ≡ globe_child (take 4 (map digit_of c.args.code.now)) = let l : Leveled (length c.args.code.now) c.level_of-level.result = leveled _ c.level_of-level.ensures c.if-level-eq0.false in c.begin.ensures.0 ∙ ap globe_child (sym (first_digits_law false c.level_of-level.result c.args.code.now l.low l.high l.long)) in it)
+bad_first : (c : In-Bad) → bad c.in-Bad.place ≡ globe_child (take 4 (map digit_of c.args.code.now))
+bad_first c = ap first_read (sym c.in-Bad.is) ∙ (let it : first_read c.begin.result ≡ globe_child (take 4 (map digit_of c.args.code.now)) = let l : Leveled (length c.args.code.now) c.level_of-level.result = leveled _ c.level_of-level.ensures c.if-level-eq0.false in c.begin.ensures.0 ∙ ap globe_child (sym (first_digits_law false c.level_of-level.result c.args.code.now l.low l.high l.long)) in it)
 
 -- the first four characters lead where they should
 led : (c : After-begin) → first_read c.begin.result ≡ globe_child (take 4 (map digit_of c.args.code.now))
@@ -33,7 +33,7 @@ begin-requires c = length_four (known (goal.at.begin-requires c).Else-level-eq0)
 
 pub rest-requires : goal.rest-requires
 rest-requires c = let l = known (goal.at.rest-requires c).Else-level-eq0 in
-    let r = subst Ranged c.in-Sheet.north.1 c.begin.ensures.1 in
+    let r = subst Ranged c.in-Sheet.is c.begin.ensures.1 in
     record { some_level = l.low; last_level = l.high; some_zone = r.0; last_zone = r.1; last_row = r.2; length_is = l.long }
 
 pub rest-requires-in-Pole : goal.rest-requires-in-Pole
@@ -42,14 +42,14 @@ rest-requires-in-Pole c = let l = known (goal.at.rest-requires-in-Pole c).Else-l
 
 pub wrong_in-requires : goal.wrong_in-requires
 wrong_in-requires c = let l = known (goal.at.wrong_in-requires c).Else-level-eq0 in
-    has_inside (first_has false _ c.args.code.now l.low l.high l.long (bad_first (goal.at.wrong_in-requires c).In-Bad-2))
+    has_inside (first_has false _ c.args.code.now l.low l.high l.long (bad_first (goal.at.wrong_in-requires c).In-Bad))
 
 pub returns-in-Sheet : goal.returns-in-Sheet
-returns-in-Sheet c = read_rest c.args.code.now (known (goal.at.returns-in-Sheet c).Else-level-eq0) (ap first_read (sym c.in-Sheet.north.1) ∙ led (goal.at.returns-in-Sheet c).After-begin) c.rest.ensures
+returns-in-Sheet c = read_rest c.args.code.now (known (goal.at.returns-in-Sheet c).Else-level-eq0) (ap first_read (sym c.in-Sheet.is) ∙ led (goal.at.returns-in-Sheet c).After-begin) c.rest.ensures
 
 pub returns-in-Pole : goal.returns-in-Pole
-returns-in-Pole c = read_rest c.args.code.now (known (goal.at.returns-in-Pole c).Else-level-eq0) (ap first_read (sym c.in-Pole.north.1) ∙ led (goal.at.returns-in-Pole c).After-begin) c.rest-in-Pole.ensures
+returns-in-Pole c = read_rest c.args.code.now (known (goal.at.returns-in-Pole c).Else-level-eq0) (ap first_read (sym c.in-Pole.is) ∙ led (goal.at.returns-in-Pole c).After-begin) c.rest-in-Pole.ensures
 
 pub returns-in-Bad : goal.returns-in-Bad
 returns-in-Bad c = let l = known (goal.at.returns-in-Bad c).Else-level-eq0 in
-    first_refused false _ c.args.code.now l.low l.high l.long (bad_first (goal.at.returns-in-Bad c).In-Bad-2) c.wrong_in.ensures
+    first_refused false _ c.args.code.now l.low l.high l.long (bad_first (goal.at.returns-in-Bad c).In-Bad) c.wrong_in.ensures

@@ -9,11 +9,11 @@ use Rattle.plane.specs.inner.Start.{first_read, Ranged}
 use Rattle.plane.proofs.Start.{first_digits_law}
 use Rattle.plane.proofs.Reading.{Leveled, leveled_at, read_rest, four_in, first_has, first_refused}
 use Rattle.plane.proofs.read_in_space.Goals as goal
-use Rattle.plane.proofs.read_in_space.Goals.{After-begin, In-Bad-2, Start}
+use Rattle.plane.proofs.read_in_space.Goals.{After-begin, In-Bad, Start}
 
 -- the first bad one of the four
-bad_first : (c : In-Bad-2) → bad c.in-Bad.place.0.0 ≡ globe_child (take 4 (map digit_of ((plane_in true c.args.level c.args.code.now))))
-bad_first c = ap first_read (sym c.in-Bad.place.1) ∙ (let it : first_read c.begin.result ≡ globe_child (take 4 (map digit_of ((plane_in true c.args.level c.args.code.now)))) = c.begin.ensures.0 ∙ ap globe_child (sym (first_digits_law true c.args.level c.args.code.now c.requires.some c.requires.most c.requires.long)) in it)
+bad_first : (c : In-Bad) → bad c.in-Bad.place ≡ globe_child (take 4 (map digit_of ((plane_in true c.args.level c.args.code.now))))
+bad_first c = ap first_read (sym c.in-Bad.is) ∙ (let it : first_read c.begin.result ≡ globe_child (take 4 (map digit_of ((plane_in true c.args.level c.args.code.now)))) = c.begin.ensures.0 ∙ ap globe_child (sym (first_digits_law true c.args.level c.args.code.now c.requires.some c.requires.most c.requires.long)) in it)
 
 known : (c : Start) → Leveled (length ((plane_in true c.args.level c.args.code.now))) c.args.level
 known c = let p = c.requires in
@@ -21,26 +21,26 @@ known c = let p = c.requires in
 
 -- the first four characters lead where they should
 led : (c : After-begin) → first_read c.begin.result ≡ globe_child (take 4 (map digit_of ((plane_in true c.args.level c.args.code.now))))
-led c =     c.begin.ensures.0 ∙ ap globe_child (sym (first_digits_law true c.args.level c.args.code.now c.requires.some c.requires.most c.requires.long))
+led c = c.begin.ensures.0 ∙ ap globe_child (sym (first_digits_law true c.args.level c.args.code.now c.requires.some c.requires.most c.requires.long))
 
 pub begin-requires : goal.begin-requires
-begin-requires c =  omega (arith, c.requires.long, four_in c.args.level c.requires.some c.requires.most)
+begin-requires c = omega (arith, c.requires.long, four_in c.args.level c.requires.some c.requires.most)
 
 pub rest_in_space-requires : goal.rest_in_space-requires
 rest_in_space-requires c = let p = c.requires in
-    let r = subst Ranged c.in-Sheet.north.1 c.begin.ensures.1 in
+    let r = subst Ranged c.in-Sheet.is c.begin.ensures.1 in
     record { some_level = p.some; last_level = p.most; some_zone = r.0; last_zone = r.1; last_row = r.2; length_is = p.long }
 
 pub wrong_in-requires : goal.wrong_in-requires
-wrong_in-requires c =     has_inside (first_has true c.args.level c.args.code.now c.requires.some c.requires.most c.requires.long (bad_first (goal.at.wrong_in-requires c).In-Bad-2))
+wrong_in-requires c = has_inside (first_has true c.args.level c.args.code.now c.requires.some c.requires.most c.requires.long (bad_first (goal.at.wrong_in-requires c).In-Bad))
 
 pub returns-in-Sheet : goal.returns-in-Sheet
 returns-in-Sheet c = let s = c in
-    read_rest ((plane_in true c.args.level c.args.code.now)) (known (goal.at.returns-in-Sheet c).Start) (ap first_read (sym c.in-Sheet.north.1) ∙ led (goal.at.returns-in-Sheet c).After-begin) c.rest_in_space.ensures
+    read_rest ((plane_in true c.args.level c.args.code.now)) (known (goal.at.returns-in-Sheet c).Start) (ap first_read (sym c.in-Sheet.is) ∙ led (goal.at.returns-in-Sheet c).After-begin) c.rest_in_space.ensures
 
 pub returns-in-Pole : goal.returns-in-Pole
 returns-in-Pole c = let s = c in
-    read_rest ((plane_in true c.args.level c.args.code.now)) (known (goal.at.returns-in-Pole c).Start) (ap first_read (sym c.in-Pole.north.1) ∙ led (goal.at.returns-in-Pole c).After-begin) c.rest_in_space-in-Pole.ensures
+    read_rest ((plane_in true c.args.level c.args.code.now)) (known (goal.at.returns-in-Pole c).Start) (ap first_read (sym c.in-Pole.is) ∙ led (goal.at.returns-in-Pole c).After-begin) c.rest_in_space-in-Pole.ensures
 
 pub returns-in-Bad : goal.returns-in-Bad
-returns-in-Bad c =     first_refused true c.args.level c.args.code.now c.requires.some c.requires.most c.requires.long (bad_first (goal.at.returns-in-Bad c).In-Bad-2) c.wrong_in.ensures
+returns-in-Bad c = first_refused true c.args.level c.args.code.now c.requires.some c.requires.most c.requires.long (bad_first (goal.at.returns-in-Bad c).In-Bad) c.wrong_in.ensures

@@ -14,20 +14,20 @@ use Rattle.plane.proofs.write_at.Goals as goal
 use Rattle.plane.proofs.write_at.Goals.{After-ask_position, After-length_of-n, After-put-arg-1, Else-room_from-n, In-At}
 
 -- the text is the code of the place that was asked for
-text : (c : In-At) → plane_text_at c.args.level c.args.longitude c.args.latitude ≡ accepted (code_of c.args.level (square_of c.in-At.p.0.0))
-text c =     sym (then_accepted (λ (q : Square). accepted (code_of c.args.level q)) (position_at ((let it : position_asked c.ask_position.result ≡ square_in 1 c.args.longitude c.args.latitude = rw (to_z-of_z c.ranges.longitude, to_z-of_z c.ranges.latitude) at c.ask_position.ensures in it)) c.in-At.p.1))
+text : (c : In-At) → plane_text_at c.args.level c.args.longitude c.args.latitude ≡ accepted (code_of c.args.level (square_of c.in-At.p))
+text c = sym (then_accepted (λ (q : Square). accepted (code_of c.args.level q)) (position_at ((let it : position_asked c.ask_position.result ≡ square_in 1 c.args.longitude c.args.latitude = rw (to_z-of_z c.ranges.longitude, to_z-of_z c.ranges.latitude) at c.ask_position.ensures in it)) c.in-At.is))
 
-long : (c : After-length_of-n) → length (code_of c.args.level (square_of c.in-At.p.0.0)) ≡ c.length_of-n.result
-long c =     let f : let p = c.in-At.p.0.0 in (p.x < HALF) × (p.y < QUARTER) = position_fits 1 c.args.longitude c.args.latitude ((let it : position_asked c.ask_position.result ≡ square_in 1 c.args.longitude c.args.latitude = rw (to_z-of_z c.ranges.longitude, to_z-of_z c.ranges.latitude) at c.ask_position.ensures in it)) c.in-At.p.1 in
-    place_length c.args.level c.in-At.p.0.0 c.requires.0 c.requires.1 f.0 f.1 ∙ sym c.length_of-n.ensures
+long : (c : After-length_of-n) → length (code_of c.args.level (square_of c.in-At.p)) ≡ c.length_of-n.result
+long c = let f : let p = c.in-At.p in (p.x < HALF) × (p.y < QUARTER) = position_fits 1 c.args.longitude c.args.latitude ((let it : position_asked c.ask_position.result ≡ square_in 1 c.args.longitude c.args.latitude = rw (to_z-of_z c.ranges.longitude, to_z-of_z c.ranges.latitude) at c.ask_position.ensures in it)) c.in-At.is in
+    place_length c.args.level c.in-At.p c.requires.0 c.requires.1 f.0 f.1 ∙ sym c.length_of-n.ensures
 
 -- where there is room from the place on, the place is in the line
 inside : (c : Else-room_from-n) → c.args.at ≤ length c.args.line.now
-inside c =     omega (arith, c.if-room_from-n.false, c.room_from.ensures, c.length_of-n.ensures, four_in c.args.level c.requires.0 c.requires.1)
+inside c = omega (arith, c.if-room_from-n.false, c.room_from.ensures, c.length_of-n.ensures, four_in c.args.level c.requires.0 c.requires.1)
 
 -- what is left of the line from there on has room for the code
-lent : (c : After-put-arg-1) → PlaneWritable false c.args.level c.in-At.p.0.0 (take (length c.args.line.now - c.args.at) (drop c.args.at c.args.line.now))
-lent c =     let f : let p = c.in-At.p.0.0 in (p.x < HALF) × (p.y < QUARTER) = position_fits 1 c.args.longitude c.args.latitude ((let it : position_asked c.ask_position.result ≡ square_in 1 c.args.longitude c.args.latitude = rw (to_z-of_z c.ranges.longitude, to_z-of_z c.ranges.latitude) at c.ask_position.ensures in it)) c.in-At.p.1 in
+lent : (c : After-put-arg-1) → PlaneWritable false c.args.level c.in-At.p (take (length c.args.line.now - c.args.at) (drop c.args.at c.args.line.now))
+lent c = let f : let p = c.in-At.p in (p.x < HALF) × (p.y < QUARTER) = position_fits 1 c.args.longitude c.args.latitude ((let it : position_asked c.ask_position.result ≡ square_in 1 c.args.longitude c.args.latitude = rw (to_z-of_z c.ranges.longitude, to_z-of_z c.ranges.latitude) at c.ask_position.ensures in it)) c.in-At.is in
     let e = c.length_of-n.ensures in
     record {
       level_low = c.requires.0;
@@ -38,10 +38,10 @@ lent c =     let f : let p = c.in-At.p.0.0 in (p.x < HALF) × (p.y < QUARTER) = 
     }
 
 asked : (c : After-ask_position) → position_asked c.ask_position.result ≡ square_in 1 c.args.longitude c.args.latitude
-asked c =  rw (to_z-of_z c.ranges.longitude, to_z-of_z c.ranges.latitude) at c.ask_position.ensures
+asked c = rw (to_z-of_z c.ranges.longitude, to_z-of_z c.ranges.latitude) at c.ask_position.ensures
 
 pub returns-then-room_from-n : goal.returns-then-room_from-n
-returns-then-room_from-n c =     laid_narrow_by c.args.line.now c.args.at _ c.refuse.ensures (text (goal.at.returns-then-room_from-n c).In-At) (long (goal.at.returns-then-room_from-n c).After-length_of-n) (omega (arith, c.if-room_from-n.true, c.room_from.ensures))
+returns-then-room_from-n c = laid_narrow_by c.args.line.now c.args.at _ c.refuse.ensures (text (goal.at.returns-then-room_from-n c).In-At) (long (goal.at.returns-then-room_from-n c).After-length_of-n) (omega (arith, c.if-room_from-n.true, c.room_from.ensures))
 
 pub slice_bounds-put-count : goal.slice_bounds-put-count
 slice_bounds-put-count c = inside (goal.at.slice_bounds-put-count c).Else-room_from-n
@@ -53,10 +53,10 @@ pub put-requires : goal.put-requires
 put-requires c = lent (goal.at.put-requires c).After-put-arg-1
 
 pub returns-else-room_from-n : goal.returns-else-room_from-n
-returns-else-room_from-n c =     let d = c in
+returns-else-room_from-n c = let d = c in
     laid_lent c.args.line.now c.args.at _ (text (goal.at.returns-else-room_from-n c).In-At) (long (goal.at.returns-else-room_from-n c).After-length_of-n) (inside (goal.at.returns-else-room_from-n c).Else-room_from-n) (omega (arith, c.if-room_from-n.false, c.room_from.ensures)) c.put.ensures
 
 pub returns-in-Refused : goal.returns-in-Refused
 returns-in-Refused c = let a = c in
     laid_refused c.args.line.now c.args.at
-    (sym (then_refused (λ (q : Square). accepted (code_of c.args.level q)) (position_refused (asked (goal.at.returns-in-Refused c).After-ask_position) c.in-Refused.r.1)))
+    (sym (then_refused (λ (q : Square). accepted (code_of c.args.level q)) (position_refused (asked (goal.at.returns-in-Refused c).After-ask_position) c.in-Refused.is)))

@@ -23,4 +23,4 @@ pub nonzero_div-result-3 : goal.nonzero_div-result-3
 nonzero_div-result-3 c = pos_of_div-pos _ c.requires.parts
 
 pub returns : goal.returns
-returns c = in_ring _ _ _ _ c.if-row-eq0.false
+returns c = in_ring c.args.s c.args.e c.args.q _ c.if-row-eq0.false

@@ -14,22 +14,22 @@ use Rattle.reference.proofs.lay_target.Goals as goal
 use Rattle.reference.proofs.lay_target.Goals.{After-length_of-n, Else-room_from-n, In-At}
 
 -- the target's level and place
-fits : (c : In-At) → Layable (goal.At c.in-At.l.0.0 c.in-At.l.0.1.0)
-fits c = subst Layable c.in-At.l.1 c.requires
+fits : (c : In-At) → Layable (goal.At c.in-At.l c.in-At.l.1.0)
+fits c = subst Layable c.in-At.is c.requires
 
-long : (c : After-length_of-n) → length (code_of c.in-At.l.0.0 (square_of c.in-At.l.0.1.0)) ≡ c.length_of-n.result
-long c = let f : Layable (goal.At c.in-At.l.0.0 c.in-At.l.0.1.0) = subst Layable c.in-At.l.1 c.requires in place_length _ c.in-At.l.0.1.0 f.0 f.1 f.2 f.3 ∙ sym c.length_of-n.ensures
+long : (c : After-length_of-n) → length (code_of c.in-At.l (square_of c.in-At.l.1.0)) ≡ c.length_of-n.result
+long c = let f : Layable (goal.At c.in-At.l c.in-At.l.1.0) = subst Layable c.in-At.is c.requires in place_length _ c.in-At.l.1.0 f.0 f.1 f.2 f.3 ∙ sym c.length_of-n.ensures
 
 -- where there is room from the place on, the place is in the line
 inside : (c : Else-room_from-n) → c.args.at ≤ length c.args.line.now
-inside c = let f : Layable (goal.At c.in-At.l.0.0 c.in-At.l.0.1.0) = subst Layable c.in-At.l.1 c.requires in
-    omega (arith, c.if-room_from-n.false, c.room_from.ensures, c.length_of-n.ensures, four_in c.in-At.l.0.0 f.0 f.1)
+inside c = let f : Layable (goal.At c.in-At.l c.in-At.l.1.0) = subst Layable c.in-At.is c.requires in
+    omega (arith, c.if-room_from-n.false, c.room_from.ensures, c.length_of-n.ensures, four_in c.in-At.l f.0 f.1)
 
 pub length_of-n-requires : goal.length_of-n-requires
 length_of-n-requires c = let f = fits (goal.at.length_of-n-requires c).In-At in (f.0, f.1)
 
 pub returns-then-room_from-n : goal.returns-then-room_from-n
-returns-then-room_from-n c =     laid_narrow_by c.args.line.now c.args.at _ c.refuse.ensures (ap goal_text c.in-At.l.1) (long (goal.at.returns-then-room_from-n c).After-length_of-n) (omega (arith, c.if-room_from-n.true, c.room_from.ensures))
+returns-then-room_from-n c =     laid_narrow_by c.args.line.now c.args.at _ c.refuse.ensures (ap goal_text c.in-At.is) (long (goal.at.returns-then-room_from-n c).After-length_of-n) (omega (arith, c.if-room_from-n.true, c.room_from.ensures))
 
 pub slice_bounds-put-count : goal.slice_bounds-put-count
 slice_bounds-put-count c = inside (goal.at.slice_bounds-put-count c).Else-room_from-n
@@ -50,7 +50,7 @@ put-requires c = let f = fits (goal.at.put-requires c).In-At in
 
 pub returns-else-room_from-n : goal.returns-else-room_from-n
 returns-else-room_from-n c =     let d = c in
-    laid_lent c.args.line.now c.args.at _ (ap goal_text c.in-At.l.1) (long (goal.at.returns-else-room_from-n c).After-length_of-n) (inside (goal.at.returns-else-room_from-n c).Else-room_from-n) (omega (arith, c.if-room_from-n.false, c.room_from.ensures)) c.put.ensures
+    laid_lent c.args.line.now c.args.at _ (ap goal_text c.in-At.is) (long (goal.at.returns-else-room_from-n c).After-length_of-n) (inside (goal.at.returns-else-room_from-n c).Else-room_from-n) (omega (arith, c.if-room_from-n.false, c.room_from.ensures)) c.put.ensures
 
 pub returns-in-Refused : goal.returns-in-Refused
-returns-in-Refused c = let s = c.args in laid_refused s.line.now s.at (ap goal_text c.in-Refused.r.1)
+returns-in-Refused c = let s = c.args in laid_refused s.line.now s.at (ap goal_text c.in-Refused.is)

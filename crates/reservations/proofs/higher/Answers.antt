@@ -5,7 +5,7 @@ use Rattle.reservations.proofs.Spans.{chosen}
 use Rattle.reservations.proofs.higher.Goals as goal
 
 pub returns-then-a-b : goal.returns-then-a-b
-returns-then-a-b c =  to_z-of_z c.ranges.b ∙ chosen c.ranges.a c.ranges.b c.if-a-b.true c.args.b c.args.a
+returns-then-a-b c = to_z-of_z c.ranges.b ∙ chosen c.ranges.a c.ranges.b c.if-a-b.true c.args.b c.args.a
 
 pub returns-else-a-b : goal.returns-else-a-b
-returns-else-a-b c =  to_z-of_z c.ranges.a ∙ chosen c.ranges.a c.ranges.b c.if-a-b.false c.args.b c.args.a
+returns-else-a-b c = to_z-of_z c.ranges.a ∙ chosen c.ranges.a c.ranges.b c.if-a-b.false c.args.b c.args.a

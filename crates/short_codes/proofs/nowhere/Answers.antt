@@ -6,4 +6,4 @@ pub returns-in-By : goal.returns-in-By
 returns-in-By c = rw (c.refuse.ensures, c.in-By.field-0.1) refl
 
 pub returns-in-Refused : goal.returns-in-Refused
-returns-in-Refused c = rw c.in-Refused.r.1 refl
+returns-in-Refused c = rw c.in-Refused.is refl

@@ -12,12 +12,12 @@ use Rattle.short_codes.proofs.Reading.{short_at, short_badly, short_nowhere}
 use Rattle.short_codes.proofs.read.Goals as goal
 
 pub read_from-requires : goal.read_from-requires
-read_from-requires c = let f = sym c.find.ensures ∙ ap place_found c.in-At.s.1 in
+read_from-requires c = let f = sym c.find.ensures ∙ ap place_found c.in-At.is in
     (c.offset_of-o.ensures.1, found_inside _ c.args.places.now (λ i. omega (arith, c.type_inv.places i)) _ f)
 
 pub returns-in-At : goal.returns-in-At
 returns-in-At c = let s = c.args in
-    let e = ap (λ (n : List ℕ). found_in n s.places.now) (sym c.name_in-name.ensures) ∙ sym c.find.ensures ∙ ap place_found c.in-At.s.1 in
+    let e = ap (λ (n : List ℕ). found_in n s.places.now) (sym c.name_in-name.ensures) ∙ sym c.find.ensures ∙ ap place_found c.in-At.is in
     rw (← short_at s.code.now s.places.now _ e, ← c.offset_of-o.ensures.0) c.read_from.ensures
 
 pub returns-in-BadlyFormed : goal.returns-in-BadlyFormed

@@ -6,7 +6,7 @@ pub bounds-code-place : goal.bounds-code-place
 bounds-code-place c = c.requires
 
 pub returns-in-Found : goal.returns-in-Found
-returns-in-Found c = rw (c.wrong_character-high.ensures, c.in-Found.c.1) refl
+returns-in-Found c = rw (c.wrong_character-high.ensures, c.in-Found.is) refl
 
 pub returns-in-Refused : goal.returns-in-Refused
 returns-in-Refused c = rw (
@@ -14,5 +14,5 @@ returns-in-Refused c = rw (
       c.at_place.ensures,
       c.plane_place.ensures,
       c.wrong_character-high.ensures,
-      c.in-Refused.r.1,
+      c.in-Refused.is,
     ) refl

@@ -16,8 +16,8 @@ asked c = rw (to_z-of_z c.ranges.edition) at c.ask_edition.ensures
 pub returns-in-At : goal.returns-in-At
 returns-in-At c = let a = c in
     let w = c.args.code.now in
-    c.read_in.ensures ∙ then_accepted (λ (rs : List ℕ). space_cell_of rs w) (sym (asked (goal.at.returns-in-At c).After-ask_edition) ∙ ap edition_asked c.in-At.second.1)
+    c.read_in.ensures ∙ then_accepted (λ (rs : List ℕ). space_cell_of rs w) (sym (asked (goal.at.returns-in-At c).After-ask_edition) ∙ ap edition_asked c.in-At.is)
 
 pub returns-in-Refused : goal.returns-in-Refused
 returns-in-Refused c = let a = c in
-    then_refused (λ (rs : List ℕ). space_cell_of rs c.args.code.now) (sym (asked (goal.at.returns-in-Refused c).After-ask_edition) ∙ ap edition_asked c.in-Refused.r.1)
+    then_refused (λ (rs : List ℕ). space_cell_of rs c.args.code.now) (sym (asked (goal.at.returns-in-Refused c).After-ask_edition) ∙ ap edition_asked c.in-Refused.is)

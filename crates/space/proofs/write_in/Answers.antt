@@ -21,9 +21,9 @@ returns-in-At c = let a = c in
     rw (to_z-of_z c.ranges.longitude, to_z-of_z c.ranges.latitude, to_z-of_z c.ranges.layer) at c.write_at.ensures
     ∙ ap (λ (t : Answer (List ℕ)). laid t c.args.line.now c.args.at)
     (then_accepted (λ (rs : List ℕ). space_text_at rs c.args.l c.args.longitude c.args.latitude c.args.layer)
-    (sym (asked (goal.at.returns-in-At c).After-ask_edition) ∙ ap edition_asked c.in-At.second.1))
+    (sym (asked (goal.at.returns-in-At c).After-ask_edition) ∙ ap edition_asked c.in-At.is))
 
 pub returns-in-Refused : goal.returns-in-Refused
 returns-in-Refused c = let a = c in
     laid_refused c.args.line.now c.args.at
-    (sym (then_refused (λ (rs : List ℕ). space_text_at rs c.args.l c.args.longitude c.args.latitude c.args.layer) (sym (asked (goal.at.returns-in-Refused c).After-ask_edition) ∙ ap edition_asked c.in-Refused.r.1)))
+    (sym (then_refused (λ (rs : List ℕ). space_text_at rs c.args.l c.args.longitude c.args.latitude c.args.layer) (sym (asked (goal.at.returns-in-Refused c).After-ask_edition) ∙ ap edition_asked c.in-Refused.is)))
