@@ -13,9 +13,9 @@ told : (u : ℤ) {x : Float} → Exactly (to_z w32 (of_z w32 u)) x → SFits w32
 told u e f = rw (to_z-of_z f) at e
 
 pub returns : goal.returns
-returns c =     record {
-      west_is = told c.args.c.west c.seconds.ensures (record { sfits = c.struct_told-1.given.1.0.1 });
-      south_is = told c.args.c.south c.seconds-2.ensures (record { sfits = c.struct_told-2-1.given.1.1.0.1 });
-      width_is = c.size_seconds.ensures;
-      height_is = c.size_seconds-2.ensures;
-    }
+returns c = record {
+  west_is = told c.args.c.west c.seconds.ensures (record { sfits = c.struct_told-1.given.1.0.1 });
+  south_is = told c.args.c.south c.seconds-2.ensures (record { sfits = c.struct_told-2-1.given.1.1.0.1 });
+  width_is = c.size_seconds.ensures;
+  height_is = c.size_seconds-2.ensures;
+}

@@ -10,15 +10,15 @@ use Rattle.arcseconds.proofs.Ends.{indexed_read, end_read, left_out}
 use Rattle.arcseconds.proofs.in_range.Goals as goal
 
 pub returns-in-Whole : goal.returns-in-Whole
-returns-in-Whole c n =     let u = c.in-Whole.u in
+returns-in-Whole c n = let u = c.in-Whole.u in
     ap accepted (to_z-of_z {w = w32} {z = u.0.0} (record { sfits = c.known_told-1.given.0.1 }))
     ∙ sym (indexed_read c.args.half c.requires.1 n c.args.x u.0.0 (sym (c.axis.ensures n) ∙ ap (reading_answer n) u.1))
 
 pub returns-then-x-size_seconds : goal.returns-then-x-size_seconds
-returns-then-x-size_seconds c n =     let top = c.size_seconds in
+returns-then-x-size_seconds c n = let top = c.size_seconds in
     ap accepted (to_z_pos w32 c.args.half c.requires.2)
     ∙ sym (end_read c.args.half c.requires.1 n c.args.x top.result top.ensures.value c.if-x-size_seconds.true)
 
 pub returns-else-x-size_seconds : goal.returns-else-x-size_seconds
-returns-else-x-size_seconds c n =     let top = c.size_seconds in
+returns-else-x-size_seconds c n = let top = c.size_seconds in
     sym (left_out c.args.half c.requires.1 n c.args.x top.result top.ensures.value (sym (c.axis.ensures n) ∙ ap (reading_answer n) c.enum_told-1.given.1) c.if-x-size_seconds.false)

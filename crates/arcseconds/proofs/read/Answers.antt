@@ -20,6 +20,6 @@ pub in_range-requires-2 : goal.in_range-requires-2
 in_range-requires-2 c = (no_nan c.args.latitude c.if-latitude.false, search rules, search rules)
 
 pub returns : goal.returns
-returns c =     c.position.ensures
+returns c = c.position.ensures
     ∙ ap₂ units_at (c.in_range.ensures 2) (c.in_range-2.ensures 3)
     ∙ both_numbers c.args.longitude c.args.latitude c.if-longitude.false c.if-latitude.false

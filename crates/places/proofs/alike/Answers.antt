@@ -19,9 +19,9 @@ four-requires-in-loop-i c = let s = c.args in
 
 pub returns-then-four : goal.returns-then-four
 returns-then-four c = record {
-      to = c.loop-i.invariant.1;
-      apart = λ h k e. c.if-four.true (c.four.ensures ∙ e ∙ sym c.four-in-loop-i.ensures);
-    }
+  to = c.loop-i.invariant.1;
+  apart = λ h k e. c.if-four.true (c.four.ensures ∙ e ∙ sym c.four-in-loop-i.ensures);
+}
 
 pub loop-i-preserved : goal.loop-i-preserved
 loop-i-preserved c = let s = c.args in

@@ -17,9 +17,9 @@ pub slice_bounds-unhyphened-start : goal.slice_bounds-unhyphened-start
 slice_bounds-unhyphened-start c = omega (arith, c.alike-d.ensures.to.inside_b)
 
 pub returns-then-unhyphened : goal.returns-then-unhyphened
-returns-then-unhyphened c =     fair_hyphenless c.args.last.now c.args.name.now c.args.code.now c.order_from.ensures c.if-order_from-ne0.false c.if-name-gt64.false c.requires
+returns-then-unhyphened c = fair_hyphenless c.args.last.now c.args.name.now c.args.code.now c.order_from.ensures c.if-order_from-ne0.false c.if-name-gt64.false c.requires
     c.alike-d.ensures.to c.unhyphened.ensures c.if-unhyphened.true c.is_accepted.ensures
 
 pub returns-else-unhyphened : goal.returns-else-unhyphened
-returns-else-unhyphened c =     fair_hyphened c.args.last.now c.args.name.now c.args.code.now c.order_from.ensures c.if-order_from-ne0.false c.if-name-gt64.false c.requires
+returns-else-unhyphened c = fair_hyphened c.args.last.now c.args.name.now c.args.code.now c.order_from.ensures c.if-order_from-ne0.false c.if-name-gt64.false c.requires
     c.alike-d.ensures.to c.unhyphened.ensures c.if-unhyphened.false

@@ -33,9 +33,9 @@ returns-then-b-i c = let s = c.args in
 
 pub loop-i-preserved : goal.loop-i-preserved
 loop-i-preserved c = let l = c.loop-i in (
-      l.invariant.0,
-      alike_next (l.i + 1) refl (omega (arith, c.loop-i-test.true, c.loop-i.invariant.0, (lesser_within (length c.args.a.now) (length c.args.b.now)).0)) (omega (arith, c.loop-i-test.true, c.loop-i.invariant.0, (lesser_within (length c.args.a.now) (length c.args.b.now)).1)) (omega (arith, c.if-a-i.false, c.if-b-i.false)) l.invariant.1,
-    )
+  l.invariant.0,
+  alike_next (l.i + 1) refl (omega (arith, c.loop-i-test.true, c.loop-i.invariant.0, (lesser_within (length c.args.a.now) (length c.args.b.now)).0)) (omega (arith, c.loop-i-test.true, c.loop-i.invariant.0, (lesser_within (length c.args.a.now) (length c.args.b.now)).1)) (omega (arith, c.if-a-i.false, c.if-b-i.false)) l.invariant.1,
+)
 
 pub returns-then-i-b : goal.returns-then-i-b
 returns-then-i-b c = let s = c.args in

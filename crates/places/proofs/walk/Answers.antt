@@ -9,7 +9,7 @@ known : (c : Else-not-fair_at) → Fair c.before.before.before.before.before.bef
 known c = fair_known _ _ _ _ (sym c.fair_at.ensures ∙ c.if-not-fair_at.false)
 
 pub loop-left-init : goal.loop-left-init
-loop-left-init c =  begins s.args.asked.now s.args.book.now s.requires
+loop-left-init c = begins s.args.asked.now s.args.book.now s.requires
 
 pub fair_at-requires : goal.fair_at-requires
 fair_at-requires c = (omega (arith, c.loop-left.invariant.room), c.loop-left.invariant.inside, c.loop-left.invariant.clear)

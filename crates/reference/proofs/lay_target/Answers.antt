@@ -29,7 +29,7 @@ pub length_of-n-requires : goal.length_of-n-requires
 length_of-n-requires c = let f = fits (goal.at.length_of-n-requires c).In-At in (f.0, f.1)
 
 pub returns-then-room_from-n : goal.returns-then-room_from-n
-returns-then-room_from-n c =     laid_narrow_by c.args.line.now c.args.at _ c.refuse.ensures (ap goal_text c.in-At.is) (long (goal.at.returns-then-room_from-n c).After-length_of-n) (omega (arith, c.if-room_from-n.true, c.room_from.ensures))
+returns-then-room_from-n c = laid_narrow_by c.args.line.now c.args.at _ c.refuse.ensures (ap goal_text c.in-At.is) (long (goal.at.returns-then-room_from-n c).After-length_of-n) (omega (arith, c.if-room_from-n.true, c.room_from.ensures))
 
 pub slice_bounds-put-count : goal.slice_bounds-put-count
 slice_bounds-put-count c = inside (goal.at.slice_bounds-put-count c).Else-room_from-n
@@ -49,7 +49,7 @@ put-requires c = let f = fits (goal.at.put-requires c).In-At in
     }
 
 pub returns-else-room_from-n : goal.returns-else-room_from-n
-returns-else-room_from-n c =     let d = c in
+returns-else-room_from-n c = let d = c in
     laid_lent c.args.line.now c.args.at _ (ap goal_text c.in-At.is) (long (goal.at.returns-else-room_from-n c).After-length_of-n) (inside (goal.at.returns-else-room_from-n c).Else-room_from-n) (omega (arith, c.if-room_from-n.false, c.room_from.ensures)) c.put.ensures
 
 pub returns-in-Refused : goal.returns-in-Refused

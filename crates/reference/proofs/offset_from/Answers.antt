@@ -5,7 +5,7 @@ use Rattle.reference.proofs.Spelling.{as_offset}
 use Rattle.reference.proofs.offset_from.Goals as goal
 
 pub target_of-requires : goal.target_of-requires
-target_of-requires c =     let d = as_offset _ _ _ _ _ (sym c.offset_in.ensures ∙ ap offset_answer c.in-By.is) in
+target_of-requires c = let d = as_offset _ _ _ _ _ (sym c.offset_in.ensures ∙ ap offset_answer c.in-By.is) in
     (c.requires.0, d.east, d.north)
 
 pub returns-in-By : goal.returns-in-By

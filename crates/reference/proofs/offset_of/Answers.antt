@@ -19,7 +19,7 @@ pub returns-then-m-gt16 : goal.returns-then-m-gt16
 returns-then-m-gt16 c = (too_far_east _ _ (east (goal.at.returns-then-m-gt16 c).After-span-m) c.if-m-gt16.true c.refuse.ensures, tt)
 
 pub returns-then-n-gt16 : goal.returns-then-n-gt16
-returns-then-n-gt16 c =     (too_far_north _ _ (east (goal.at.returns-then-n-gt16 c).After-span-m) c.if-m-gt16.false (north (goal.at.returns-then-n-gt16 c).After-span-n) c.if-n-gt16.true c.refuse-then-n-gt16.ensures, tt)
+returns-then-n-gt16 c = (too_far_north _ _ (east (goal.at.returns-then-n-gt16 c).After-span-m) c.if-m-gt16.false (north (goal.at.returns-then-n-gt16 c).After-span-n) c.if-n-gt16.true c.refuse-then-n-gt16.ensures, tt)
 
 pub returns : goal.returns
-returns c =     (near_both _ _ (east (goal.at.returns c).After-span-m) c.if-m-gt16.false (north (goal.at.returns c).After-span-n) c.if-n-gt16.false, (c.if-m-gt16.false, c.if-n-gt16.false))
+returns c = (near_both _ _ (east (goal.at.returns c).After-span-m) c.if-m-gt16.false (north (goal.at.returns c).After-span-n) c.if-n-gt16.false, (c.if-m-gt16.false, c.if-n-gt16.false))

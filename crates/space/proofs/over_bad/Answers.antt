@@ -10,9 +10,9 @@ returns-in-Found c = rw (c.wrong_character-high.ensures, c.in-Found.is) refl
 
 pub returns-in-Refused : goal.returns-in-Refused
 returns-in-Refused c = rw (
-      c.earlier.ensures,
-      c.at_place.ensures,
-      c.plane_place.ensures,
-      c.wrong_character-high.ensures,
-      c.in-Refused.is,
-    ) refl
+  c.earlier.ensures,
+  c.at_place.ensures,
+  c.plane_place.ensures,
+  c.wrong_character-high.ensures,
+  c.in-Refused.is,
+) refl

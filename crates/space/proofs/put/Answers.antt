@@ -28,4 +28,4 @@ put-requires c = let s = c in
     record { some_level = q.level_low; ten_levels = q.level_high; rise_in = q.rise_in; room = omega (arith, n, room (goal.at.put-requires c).Start) }
 
 pub returns : goal.returns
-returns c =     put_code c.args.second c.args.l c.args.p c.args.above c.args.rise c.args.line.now c.requires.0 c.requires.1 c.put_in_space.ensures c.put.ensures
+returns c = put_code c.args.second c.args.l c.args.p c.args.above c.args.rise c.args.line.now c.requires.0 c.requires.1 c.put_in_space.ensures c.put.ensures

@@ -23,4 +23,4 @@ pub joined-requires : goal.joined-requires
 joined-requires c = c.height_of-h.ensures.1
 
 pub returns : goal.returns
-returns c =     read_joined c.args.second c.args.code.now c.level_of-level.result (known (goal.at.returns c).Else-level-eq0) c.joined.ensures c.read_in_space-a.ensures c.height_of-h.ensures.0
+returns c = read_joined c.args.second c.args.code.now c.level_of-level.result (known (goal.at.returns c).Else-level-eq0) c.joined.ensures c.read_in_space-a.ensures c.height_of-h.ensures.0

@@ -17,7 +17,7 @@ use Rattle.space.proofs.write_at.Goals as goal
 use Rattle.space.proofs.write_at.Goals.{After-ask_position}
 
 asked : (c : After-ask_position) → position_asked c.ask_position.result ≡ square_in 1 c.args.longitude c.args.latitude
-asked c =  rw (to_z-of_z c.ranges.longitude, to_z-of_z c.ranges.latitude) at c.ask_position.ensures
+asked c = rw (to_z-of_z c.ranges.longitude, to_z-of_z c.ranges.latitude) at c.ask_position.ensures
 
 pub write_over-requires : goal.write_over-requires
 write_over-requires c = let a = c in

@@ -15,7 +15,7 @@ use Rattle.space.proofs.write_over.Goals as goal
 use Rattle.space.proofs.write_over.Goals.{After-ask_layer}
 
 asked : (c : After-ask_layer) → layer_asked c.ask_layer.result ≡ asked_of (radices_of c.args.second) c.args.layer
-asked c =  c.ask_layer.ensures ∙ ap (asked_of (radices_of c.args.second)) (to_z-of_z c.ranges.layer)
+asked c = c.ask_layer.ensures ∙ ap (asked_of (radices_of c.args.second)) (to_z-of_z c.ranges.layer)
 
 pub lay-requires : goal.lay-requires
 lay-requires c = let a = c in
