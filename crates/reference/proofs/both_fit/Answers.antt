@@ -3,7 +3,7 @@ use mathlib.Core.Path.{refl}
 use Rattle.reference.proofs.both_fit.Goals as goal
 
 pub returns-then-fits : goal.returns-then-fits
-returns-then-fits c = rw (← c.before.before.fits2.ensures, c.if-fits.true) c.fits3.ensures
+returns-then-fits c = rw (← c.fits.ensures, c.if-fits.true) c.fits-then-fits.ensures
 
 pub returns-else-fits : goal.returns-else-fits
-returns-else-fits c = rw (← c.before.fits2.ensures, c.if-fits.false) refl
+returns-else-fits c = rw (← c.fits.ensures, c.if-fits.false) refl

@@ -8,21 +8,21 @@ use Rattle.grid.specs.inner.Roads.{square_of}
 use Rattle.grid.proofs.Laying.{laid_refused, laid_narrow_by, laid_lent}
 use Rattle.plane.proofs.Reading.{four_in, place_length}
 use Rattle.reference.specs.inner.Parts.{goal_text, Layable}
-use Rattle.reference.specs.declared.Goal.TheVariants as goal
+use Rattle.reference.specs.declared.Goal.TheVariants as goals
 use borrow.Author.Rules.{rules}
 use Rattle.reference.proofs.lay_target.Goals as goal
 use Rattle.reference.proofs.lay_target.Goals.{After-length_of-n, Else-room_from-n, In-At}
 
 -- the target's level and place
-fits : (c : In-At) → Layable (goal.At c.in-At.l c.in-At.l.1.0)
+fits : (c : In-At) → Layable (goals.At c.in-At.l c.in-At.p)
 fits c = subst Layable c.in-At.is c.requires
 
-long : (c : After-length_of-n) → length (code_of c.in-At.l (square_of c.in-At.l.1.0)) ≡ c.length_of-n.result
-long c = let f : Layable (goal.At c.in-At.l c.in-At.l.1.0) = subst Layable c.in-At.is c.requires in place_length _ c.in-At.l.1.0 f.0 f.1 f.2 f.3 ∙ sym c.length_of-n.ensures
+long : (c : After-length_of-n) → length (code_of c.in-At.l (square_of c.in-At.p)) ≡ c.length_of-n.result
+long c = let f : Layable (goals.At c.in-At.l c.in-At.p) = subst Layable c.in-At.is c.requires in place_length _ c.in-At.p f.0 f.1 f.2 f.3 ∙ sym c.length_of-n.ensures
 
 -- where there is room from the place on, the place is in the line
 inside : (c : Else-room_from-n) → c.args.at ≤ length c.args.line.now
-inside c = let f : Layable (goal.At c.in-At.l c.in-At.l.1.0) = subst Layable c.in-At.is c.requires in
+inside c = let f : Layable (goals.At c.in-At.l c.in-At.p) = subst Layable c.in-At.is c.requires in
     omega (arith, c.if-room_from-n.false, c.room_from.ensures, c.length_of-n.ensures, four_in c.in-At.l f.0 f.1)
 
 pub length_of-n-requires : goal.length_of-n-requires

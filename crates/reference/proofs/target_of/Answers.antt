@@ -8,7 +8,7 @@ use Rattle.reference.proofs.target_of.Goals.{Then-fits}
 
 -- the base fits
 base_fits : (c : Then-fits) → true ≡ fit c.args.b
-base_fits c = sym c.if-fits.true ∙ c.before.fits2.ensures
+base_fits c = sym c.if-fits.true ∙ c.fits.ensures
 
 pub landed-p-requires : goal.landed-p-requires
 landed-p-requires c = (known_steps _ c.requires.0 (base_fits (goal.at.landed-p-requires c).Then-fits), c.requires.1, c.requires.2)
@@ -21,4 +21,4 @@ pub returns-then-fits : goal.returns-then-fits
 returns-then-fits c = (target_polar _ _ _ c.landed-p.result c.landed-p.ensures (base_fits (goal.at.returns-then-fits c).Then-fits) c.if-p-lt-POLAR.false c.refuse.ensures, tt)
 
 pub returns : goal.returns
-returns c = (target_unfit _ _ _ (sym c.if-fits.false ∙ c.before.before.fits2.ensures) c.refuse-2.ensures, tt)
+returns c = (target_unfit _ _ _ (sym c.if-fits.false ∙ c.fits.ensures) c.refuse-2.ensures, tt)
