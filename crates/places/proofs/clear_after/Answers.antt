@@ -15,7 +15,7 @@ pub loop-i-preserved : goal.loop-i-preserved
 loop-i-preserved c = let name = c.args.name.now in
     let l = c.loop-i in
     let t = c.loop-i-test.true in
-    (omega (arith, t), ap (λ (q : Bool). q && unhyphened (drop (l.i + 1) name)) c.clear_with-so_far.ensures ∙ hyphen_with name l.i (l.i + 1) l.so_far_here refl t ∙ l.invariant.1)
+    (omega (arith, t), ap (λ (q : Bool). q && unhyphened (drop (l.i + 1) name)) c.clear_with-so_far.ensures ∙ hyphen_with name l.i (l.i + 1) l.so_far refl t ∙ l.invariant.1)
 
 pub returns : goal.returns
-returns c = let l = c.loop-i in hyphen_end c.args.name.now l.i l.so_far_here c.loop-i-test.false ∙ l.invariant.1
+returns c = let l = c.loop-i in hyphen_end c.args.name.now l.i l.so_far c.loop-i-test.false ∙ l.invariant.1

@@ -6,7 +6,7 @@ use Rattle.places.proofs.find.Goals as goal
 
 pub returns-in-Badly : goal.returns-in-Badly
 returns-in-Badly c = let s = c.args in
-    find_badly s.name.now s.places.now (λ i. omega (arith, c.type_inv.places i)) (sym c.look.ensures ∙ c.enum_told-1.given.1)
+    find_badly s.name.now s.places.now (λ i. omega (arith, c.type_inv.places i)) (sym c.look.ensures ∙ c.in-Badly.is)
 
 pub returns-in-Holds : goal.returns-in-Holds
 returns-in-Holds c = let s = c.args in

@@ -5,7 +5,7 @@ use Rattle.places.specs.Book.{is_accepted}
 use Rattle.places.proofs.is_accepted.Goals as goal
 
 pub returns-in-Found : goal.returns-in-Found
-returns-in-Found c = ap is_accepted (ap plane_read (sym c.in-Found.field-0.1) ∙ c.read.ensures)
+returns-in-Found c = ap is_accepted (ap plane_read (sym c.in-Found.is) ∙ c.read.ensures)
 
 pub returns-in-Refused : goal.returns-in-Refused
-returns-in-Refused c = ap is_accepted (ap plane_read (sym c.in-Refused.field-0.1) ∙ c.read.ensures)
+returns-in-Refused c = ap is_accepted (ap plane_read (sym c.in-Refused.is) ∙ c.read.ensures)

@@ -27,7 +27,7 @@ returns-in-At c = let s = c.args in
     part_at s.name.now s.places.now c.in-At.s (sym c.find.ensures ∙ ap place_found c.in-At.is)
 
 pub returns-in-BadlyFormed : goal.returns-in-BadlyFormed
-returns-in-BadlyFormed c = let s = c.before.before.before.before.before.before.args in part_none s.name.now s.places.now _ (sym c.before.before.before.find.ensures ∙ ap place_found c.before.enum_told.given.1)
+returns-in-BadlyFormed c = let s = c.args in part_none s.name.now s.places.now _ (sym c.find.ensures ∙ ap place_found c.in-BadlyFormed.is)
 
 pub returns-in-NotInBook : goal.returns-in-NotInBook
-returns-in-NotInBook c = let s = c.before.before.before.before.before.before.args in part_none s.name.now s.places.now _ (sym c.before.before.before.find.ensures ∙ ap place_found c.before.enum-told2.given.1)
+returns-in-NotInBook c = let s = c.args in part_none s.name.now s.places.now _ (sym c.find.ensures ∙ ap place_found c.in-NotInBook.is)

@@ -5,11 +5,11 @@ use Rattle.places.proofs.Walking.{begins, Fair, fair_known, fits_here, stops, go
 use Rattle.places.proofs.walk.Goals as goal
 use Rattle.places.proofs.walk.Goals.{Else-not-fair_at}
 
-known : (c : Else-not-fair_at) → Fair c.before.before.before.before.before.before.before.args.book.now c.loop-left.i c.loop-left.here c.loop-left.last.now
+known : (c : Else-not-fair_at) → Fair c.args.book.now c.loop-left.i c.loop-left.here c.loop-left.last.now
 known c = fair_known _ _ _ _ (sym c.fair_at.ensures ∙ c.if-not-fair_at.false)
 
 pub loop-left-init : goal.loop-left-init
-loop-left-init c = begins s.args.asked.now s.args.book.now s.requires
+loop-left-init c = begins c.args.asked.now c.args.book.now c.requires
 
 pub fair_at-requires : goal.fair_at-requires
 fair_at-requires c = (omega (arith, c.loop-left.invariant.room), c.loop-left.invariant.inside, c.loop-left.invariant.clear)
