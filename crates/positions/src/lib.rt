@@ -2,4 +2,3 @@
 // them together.
 // There is no code here: the table is over the definitions that the calls' contracts cite.
 #![tactic(auto)]
-

@@ -7,10 +7,10 @@ use Rattle.short_codes.proofs.Reading.{name_short}
 use Rattle.short_codes.proofs.name_in.Goals as goal
 
 pub returns-then-n-lt3 : goal.returns-then-n-lt3
-returns-then-n-lt3 c = name_short c.before.before.args.code.now c.before.if1.true
+returns-then-n-lt3 c = name_short c.args.code.now c.if-n-lt3.true
 
 pub slice_bounds-result-end-2 : goal.slice_bounds-result-end-2
-slice_bounds-result-end-2 c = sym (length-take-le _ c.before.before.args.code.now (omega arith))
+slice_bounds-result-end-2 c = sym (length-take-le _ c.args.code.now (omega arith))
 
 pub returns : goal.returns
 unfolding name_in

@@ -22,10 +22,10 @@ returns-in-At c = let s = c.args in
 
 pub returns-in-BadlyFormed : goal.returns-in-BadlyFormed
 returns-in-BadlyFormed c = let s = c.args in
-    let e = ap (λ (n : List ℕ). found_in n s.places.now) (sym c.name_in-name.ensures) ∙ sym c.find.ensures ∙ ap place_found c.enum_told-1.given.1 in
+    let e = ap (λ (n : List ℕ). found_in n s.places.now) (sym c.name_in-name.ensures) ∙ sym c.find.ensures ∙ ap place_found c.in-BadlyFormed.is in
     laid_refused s.line.now s.at (sym (ap refused c.refuse.ensures ∙ short_badly s.code.now s.places.now e))
 
 pub returns-in-NotInBook : goal.returns-in-NotInBook
 returns-in-NotInBook c = let s = c.args in
-    let e = ap (λ (n : List ℕ). found_in n s.places.now) (sym c.name_in-name.ensures) ∙ sym c.find.ensures ∙ ap place_found c.enum_told-in-NotInBook-1.given.1 in
+    let e = ap (λ (n : List ℕ). found_in n s.places.now) (sym c.name_in-name.ensures) ∙ sym c.find.ensures ∙ ap place_found c.in-NotInBook.is in
     laid_refused s.line.now s.at (sym (c.nowhere.ensures ∙ ap text_nowhere c.offset_of-o.ensures.0 ∙ short_nowhere s.code.now s.places.now e))

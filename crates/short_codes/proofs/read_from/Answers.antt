@@ -6,7 +6,7 @@ use Rattle.short_codes.specs.inner.Parts.{Digits, text_at}
 use Rattle.short_codes.proofs.read_from.Goals as goal
 
 pub read_at-requires : goal.read_at-requires
-read_at-requires c =     let d = subst Digits c.in-By.is c.requires.0 in
+read_at-requires c = let d = subst Digits c.in-By.is c.requires.0 in
     (c.requires.1, d.0, d.1)
 
 pub returns-in-By : goal.returns-in-By
