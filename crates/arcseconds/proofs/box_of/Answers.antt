@@ -1,5 +1,6 @@
 -- `box_of` meets its contract, by those of its four calls.
 -- Assumes nothing.
+use Rattle.std.proofs.Common.{rules}
 use lib.IntN.{ℤ}
 use lib.Ieee.{Float}
 use mir.Syntax.{w32}
@@ -14,8 +15,8 @@ told u e f = rw (to_z-of_z f) at e
 
 pub returns : goal.returns
 returns c = record {
-  west_is = told c.args.c.west c.seconds.ensures (record { sfits = c.struct_told-1.given.1.0.1 });
-  south_is = told c.args.c.south c.seconds-2.ensures (record { sfits = c.struct_told-2-1.given.1.1.0.1 });
+  west_is = told c.args.c.west c.seconds.ensures (search rules);
+  south_is = told c.args.c.south c.seconds-2.ensures (search rules);
   width_is = c.size_seconds.ensures;
   height_is = c.size_seconds-2.ensures;
 }

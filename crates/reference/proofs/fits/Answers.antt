@@ -1,4 +1,5 @@
 -- `reference::fits` meets its contract. Assumes nothing.
+use Rattle.std.proofs.Common.{rules}
 use mathlib.Core.Path.{◌∙◌, ap}
 use mir.Syntax.{w32}
 use mir.Facts.{to_z-of_z}
@@ -10,4 +11,4 @@ pub returns-then-c-lt5 : goal.returns-then-c-lt5
 returns-then-c-lt5 c = fit_coarse c.args.c c.if-c-lt5.true
 
 pub returns : goal.returns
-returns c = fit_fine c.args.c c.if-c-lt5.false (c.outward.ensures ∙ ap index (to_z-of_z {w = w32} {z = c.args.c.south} (record { sfits = c.struct_told-1.given.1.1.0.1 })))
+returns c = fit_fine c.args.c c.if-c-lt5.false (c.outward.ensures ∙ ap index (to_z-of_z {w = w32} {z = c.args.c.south} (search rules)))

@@ -1,4 +1,5 @@
 -- `reservations::layers_meet` meets its contract. Assumes nothing.
+use Rattle.std.proofs.Common.{rules}
 use Rattle.reservations.specs.Meeting.{layers_meet}
 use Rattle.reservations.proofs.Meets.{runs_back}
 use Rattle.reservations.proofs.layers_meet.Goals as goal
@@ -6,4 +7,4 @@ use Rattle.reservations.proofs.layers_meet.Goals as goal
 pub returns : goal.returns
 unfolding layers_meet
 returns c = let s = c.args in
-    runs_back (record { sfits = c.struct_told-1.given.1.1.0.1.1.1.0.1 }) (record { sfits = c.struct_told-2-1.given.1.1.0.1.1.1.0.1 }) s.a.space.thickness s.b.space.thickness c.runs_meet.ensures
+    runs_back (search rules) (search rules) s.a.space.thickness s.b.space.thickness c.runs_meet.ensures
