@@ -1,7 +1,7 @@
 #!/usr/bin/env python3
 """No import that nothing uses: a name that a `use` or `ghost use` line of a file below crates/ brings in, and the rest of the file does not say.
 
-Comments, texts and other imports do not count as a use, but for a path that begins with the name. `_+_` is used where each of its parts stands. What
+Comments, texts and other imports do not count as a use, but for a path that begins with the name. `◌+◌` is used where each of its parts stands. What
 `pub use` passes on is for others. A name that is also a variable's counts as used: the list may be too short, and is seldom too long.
 It names each such import, and fails if there is one, or if it found no file to look at.
 """
@@ -19,9 +19,8 @@ def blank(match):
 
 
 def said(text, code):
-    """The names that a text says; operators also by their parts."""
+    """The names that a text says."""
     names = set(re.split(r"[\s(){}.;,@\"«»]+", text))
-    names |= {part for name in names if "_" in name for part in name.split("_")}
     return names | set(re.findall(r"\w+", text)) if code else names
 
 
@@ -45,14 +44,14 @@ def unused(path):
     found, heads = imported(text)
     names = said(USE.sub(blank, text), path.suffix == ".rt")
     for line, name, module in found:
-        parts = [part for part in name.split("_") if part]
-        if name not in names and name not in heads and not ("_" in name and parts and all(part in names for part in parts)):
+        parts = [part for part in name.split("◌") if part]
+        if name not in names and name not in heads and not ("◌" in name and parts and all(part in names for part in parts)):
             yield f"{path}:{line}: {name}, of {module}"
 
 
 def main():
     top = pathlib.Path(__file__).resolve().parent.parent / "crates"
-    files = sorted(path for path in top.rglob("*") if path.suffix in SKIP)
+    files = sorted(path for path in top.rglob("*") if path.suffix in SKIP and "out" not in path.relative_to(top).parts)
     lines = [line for path in files for line in unused(path)]
     print("\n".join(lines + [f"imports: {len(lines)} that nothing uses, in {len(files)} files"]))
     return 1 if lines or not files else 0

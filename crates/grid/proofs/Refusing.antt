@@ -6,7 +6,7 @@ use lib.ListN.{length-map}
 use Rattle.grid.specs.Characters.{char_of, digit_of, code_character}
 use Rattle.grid.specs.Tree.{Read, ok, bad, follow}
 use Rattle.grid.specs.Answers.{Answer, accepted, refused, refusal, wrong_length, wrong_number, wrong_at}
-use Rattle.grid.specs.Codes.{Codes, code_in, read_in, place_in, answer, answer_at}
+use Rattle.grid.specs.Codes.{Codes, code_in, read_in, place_in}
 use Rattle.grid.specs.Places.{among, Accepted, FirstBad, Places}
 use Rattle.grid.proofs.Cut.{clash, Below}
 use Rattle.grid.proofs.Lists.{take_map}

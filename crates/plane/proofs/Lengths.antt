@@ -1,5 +1,5 @@
 -- Lengths and levels: the table's lengths, both ways. Assumes nothing.
-use Rattle.std.proofs.Common.{◌≡◌, ℕ, ◌-◌, ◌<◌, ◌≤◌, List, [], ◌∷◌, map, get_or, sym, refl, ap}
+use Rattle.std.proofs.Common.{◌≡◌, ℕ, ◌<◌, ◌≤◌, List, [], ◌∷◌, map, get_or, sym, refl, ap}
 use Rattle.grid.specs.Splits.{splits}
 use Rattle.grid.proofs.Cut.{Entry, tabled}
 use Rattle.grid.proofs.Lengths.{no_place}

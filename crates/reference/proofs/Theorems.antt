@@ -24,7 +24,7 @@ use Rattle.grid.proofs.Theorems.{plane_places}
 use Rattle.reference.specs.Offsets.{offset_digit}
 use Rattle.reference.specs.Text.{HYPHEN, fit, east_span, north_span, reference_code, spelled, spanned, reference_text, target_square, Aim, target_of, aim_of, reference_lengths, target_text}
 use Rattle.reference.specs.Meaning.{south_after, OffsetTo, Formed, Leads, CodesOf, WhyWritten, base_six, base_wrong, target_six, target_wrong, eight, nine, ten, an_offset, WhyRead, six, wrong, not_fit, twelve, target}
-use Rattle.reference.proofs.Spelling.{formed, formed_start, parts, read_formed, formed_of}
+use Rattle.reference.proofs.Spelling.{formed_start, parts, read_formed, formed_of}
 use Rattle.reference.proofs.Places.{less_three, answered, some_code}
 use Rattle.reference.proofs.Leading.{related_of, reached, reached_spanned, taken, related_read, leads_of, of_leads, by_latitude, by_offset, found_offset, leads_by}
 

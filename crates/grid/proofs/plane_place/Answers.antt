@@ -1,5 +1,5 @@
 -- `plane_place` meets its contract: the loop counts the levels that end before the character. Assumes nothing.
-use Rattle.std.proofs.Common.{◌-◌, arith}
+use Rattle.std.proofs.Common.{arith}
 use Rattle.grid.proofs.Standing.{plane_none, plane_sign, plane_first, counting_first, counting_next, counting_done}
 use Rattle.grid.proofs.plane_place.Goals as goal
 

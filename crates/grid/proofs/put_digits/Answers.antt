@@ -10,7 +10,7 @@ pub bounds-line-at : goal.bounds-line-at
 bounds-line-at c = let s = c in omega (arith, c.requires.room c.if-level-k.false, s)
 
 pub overflow_add-line : goal.overflow_add-line
-overflow_add-line c =  let h = c.requires.room c.if-level-k.false in let e = c.if-s-eq2.true in search rules
+overflow_add-line c = let h = c.requires.room c.if-level-k.false in let e = c.if-s-eq2.true in search rules
 
 pub bounds-line-at-then-s-eq2 : goal.bounds-line-at-then-s-eq2
 bounds-line-at-then-s-eq2 c = let s = c in

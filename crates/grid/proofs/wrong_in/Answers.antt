@@ -7,4 +7,4 @@ pub bounds-code-stands_at : goal.bounds-code-stands_at
 bounds-code-stands_at c = rw c.stands_at.ensures c.requires
 
 pub returns : goal.returns
-returns c =     c.wrong_character.ensures ∙ ap (λ (at : ℕ). wrong_character c.args.p (get_or c.args.code.now at 0)) c.stands_at.ensures
+returns c = c.wrong_character.ensures ∙ ap (λ (at : ℕ). wrong_character c.args.p (get_or c.args.code.now at 0)) c.stands_at.ensures

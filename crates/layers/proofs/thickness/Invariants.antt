@@ -1,6 +1,6 @@
 -- `layers::thickness` meets its contract: the loop multiplies the radices from the last one on. Assumes nothing.
 use mathlib.Core.Path.{◌≡◌}
-use Prim.Native.Nat.{◌-◌, ◌≤◌}
+use Prim.Native.Nat.{◌≤◌}
 use Rattle.layers.specs.inner.Steps.{thickness_at}
 use Rattle.layers.proofs.thickness.Given as goal
 

@@ -1,6 +1,6 @@
 -- `places::order_after` meets its contract. Assumes nothing.
 use mathlib.Core.Path.{refl, sym, ◌∙◌}
-use Prim.Native.Nat.{◌+◌, ◌-◌}
+use Prim.Native.Nat.{◌+◌}
 use native.Mathlib.Omega.{arith}
 use lib.ListN.{length}
 use Rattle.places.proofs.Names.{lesser_within, lesser_reached, order_less, order_more, ends_below, ends_above, ends_same, alike_next}

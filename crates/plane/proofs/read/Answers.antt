@@ -8,7 +8,6 @@ use Rattle.plane.specs.inner.Start.{first_read, Ranged}
 use Rattle.grid.proofs.Standing.{has_inside}
 use Rattle.plane.proofs.Start.{first_digits_law}
 use Rattle.plane.proofs.Reading.{Leveled, leveled, read_none, read_rest, length_four, first_has, first_refused}
-use Rattle.polar_read.proofs.rest.Reads as rest-reads'
 use Rattle.plane.proofs.read.Goals as goal
 use Rattle.plane.proofs.read.Goals.{After-begin, Else-level-eq0, In-Bad}
 

@@ -1,5 +1,4 @@
 -- `reference::copy` meets its contract. The loop's invariant: the line holds the bytes passed. The measure is what is left of them. Assumes nothing.
-use Prim.Native.Nat.{◌-◌}
 use Rattle.reference.proofs.Lines.{copied_more, copied_all}
 use borrow.Author.Rules.{rules}
 use Rattle.reference.proofs.copy.Goals as goal

@@ -1,16 +1,12 @@
 -- `space::height_of` meets its contract. Assumes nothing.
-use mathlib.Core.Path.{◌≡◌, sym, ◌∙◌, ap}
-use mathlib.Core.List.{map}
+use mathlib.Core.Path.{sym, ◌∙◌, ap}
 use Prim.Native.Nat.{◌+◌, ◌<◌}
 use native.Mathlib.Omega.{arith}
 use mir.Syntax.{w32}
 use mir.Facts.{to_z-of_z}
-use Rattle.grid.specs.Characters.{digit_of}
 use Rattle.grid.specs.Layers.{product}
-use Rattle.layers.specs.declared.LayersRead.{LayersRead}
 use Rattle.layers.specs.inner.Editions.{radices_of}
-use Rattle.layers.specs.inner.Steps.{standing}
-use Rattle.layers.specs.Heights.{height_read, layers_read}
+use Rattle.layers.specs.Heights.{layers_read}
 use Rattle.space.specs.inner.Parts.{heights_in}
 use Rattle.space.proofs.Reading.{lying, height_few, height_stands}
 use Rattle.space.proofs.height_of.Goals as goal

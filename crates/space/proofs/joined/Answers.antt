@@ -2,7 +2,6 @@
 use Rattle.std.proofs.Common.{◌≡◌, refl, ◌∙◌, subst, rules, to_z, of_z}
 use lib.ListN.{length}
 use mir.Syntax.{w32}
-use mir.Facts.{to_z-of_z}
 use Rattle.space.specs.inner.Parts.{BadWithin}
 use Rattle.space.proofs.joined.Goals as goal
 

@@ -1,11 +1,9 @@
 -- `Cursor::start` meets its contract: the zone's side gives the column. Assumes nothing.
 use mathlib.Core.Path.{subst⁻¹}
-use mathlib.Core.Logic.{⊎_elim}
 use Prim.Native.Nat.{◌*◌}
 use native.Mathlib.Omega.{arith}
 use mir.Syntax.{w32}
 use mir.Val.{Fits}
-use borrow.Author.Tests.{ltb-true, ltb-false}
 use Rattle.grid.specs.declared.Split.{Split}
 use Rattle.ordinary_read.specs.inner.Reading.{AtSheet}
 use Rattle.ordinary_read.proofs.Steps.{begun, started_east, started_west}
