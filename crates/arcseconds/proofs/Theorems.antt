@@ -30,7 +30,7 @@ use Rattle.arcseconds.proofs.Meaning.{both_whole, why, so, seconds_whole}
 
 -- ---- the floor
 
--- each finite reading has whole units that are the greatest not above it; they are the only ones (`one-floor` in Whole.antt)
+-- each finite reading has whole units that are the greatest not above it; they are the only ones (`one_floor` in Whole.antt)
 pub a_floor : (s : Bool) (m : ℕ) (e : ℤ) → (u : ℤ) × Floors (fin s m e) u
 unfolding Floors
 a_floor s m e = (greatest_whole s (2048 * (m * up e)) (down e), whole_is s (2048 * (m * up e)) (down e) (down_pos e))

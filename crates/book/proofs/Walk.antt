@@ -1,7 +1,7 @@
 -- What the walks over a lent book share, here and in hailgully:
 --     calls-plain      a call of a covered function whose parameters are plain data: what it asks is made of nothing, and what comes back is a value r of the result's type,
---                      spelled out, with the fact that the callee's `ensures` states (`Gives`, `plain-post`). Operands are read with one item more at the head
---     calls-lent       the same of a callee that is lent something and gives it back (`GivesBack`, `lent-post`)
+--                      spelled out, with the fact that the callee's `ensures` states (`Gives`, `plain_post`). Operands are read with one item more at the head
+--     calls-lent       the same of a callee that is lent something and gives it back (`GivesBack`, `lent_post`)
 --     remaining        the rest of a sequence
 -- Assumes nothing.
 use mathlib.Core.Path.{◌≡◌, refl, sym, ◌∙◌, ap, subst}

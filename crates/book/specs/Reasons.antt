@@ -37,7 +37,7 @@ pub record Ready (made : Answer Reservation) (book : List Reservation) (a : Rese
   pub short : length book ≤ 256
   pub record_is : made ≡ accepted a
 
--- adding to a book the record that was made of a code, a flight and minutes (`planeRecord`, `groundRecord`, `spaceRecord`)
+-- adding to a book the record that was made of a code, a flight and minutes (`plane_record`, `ground_record`, `space_record`)
 pub data WhyAdd (made : Answer Reservation) (book : List Reservation) : Answer ℕ → Type 0 where
   -- 19: the book is too long
   add_too_long : 256 < length book → WhyAdd made book (refused (refusal 19 0))
