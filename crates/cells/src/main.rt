@@ -1,6 +1,7 @@
 // The program: reads plane codes from standard input, a line each, and prints the cell of each or its refusal (document 01, "Positions to check").
 // It reads what there is, up to 65,536 bytes at a time, and writes the answers of whole lines before it reads on. The work is in `lines`.
-// What could not be read or written it says on standard error; and it has no exit status, so its last word is a byte on descriptor 3 (`VERDICT`).
+// What could not be read or written it says on standard error; of an output that nobody reads any more it says nothing. Its exit status is 0 where
+// all of the input was read and all of the answers were written, and 1 where not.
 #![tactic(auto)]
 
 ghost use Rattle.std.specs.Prelude.{◌≡◌, true, false, ◌≤◌, length, take};
@@ -9,10 +10,8 @@ ghost use Rattle.lines.specs.Filling.{KEPT, marks, work, start, fill};
 ghost use Rattle.lines.specs.Run.{finish_text, Through, Ran};
 ghost use Rattle.lines.specs.inner.Buffers.{Laid, Lent};
 
-use libc::{STDIN_FILENO, STDOUT_FILENO};
-
-// Where the verdict goes: `0` where all of the input was read and all of the answers were written, `1` where not. `./run` reads it.
-const VERDICT: i32 = 3;
+use std::io::{Eprint, ErrorKind, Print, Read};
+use std::process::ExitCode;
 
 // What was handed to the output: how many bytes, and whether it took all of them.
 #[derive(Clone, Copy)]
@@ -21,18 +20,25 @@ struct Handed {
     whole: bool,
 }
 
-// A text is handed to standard output. A failure is said at once, while C still knows its cause.
-fn hand_over(text: &[u8]) -> Handed
+// A text is handed to standard output. A failure is said at once; where nobody reads the output any more, the program ends as quietly as other filters.
+fn hand_over<R: Print + Eprint>(rt: &R, text: &[u8]) -> Handed
     ensures { result.bytes ≡ length text.now }
 {
     let bytes = text.len();
-    let whole = io::write_all(STDOUT_FILENO, text);
-    if !whole {
-        os::fail(b"cells: the output cannot be written");
-    }
-    Handed {
-        bytes: bytes,
-        whole: whole,
+    match rt.write_all(text) {
+        Ok(()) => Handed {
+            bytes: bytes,
+            whole: true,
+        },
+        Err(cause) => {
+            if cause.kind() != ErrorKind::BrokenPipe {
+                let _ = eprintln!(rt; "cells: the output cannot be written: {cause}");
+            }
+            Handed {
+                bytes: bytes,
+                whole: false,
+            }
+        }
     }
 }
 
@@ -47,13 +53,19 @@ struct Printed {
 }
 
 // As much of a block as there is room for is filled in and handed over.
-fn print_some(block: &[u8], held: usize, line: &mut [u8], out: &mut [u8]) -> Printed
+fn print_some<R: Print + Eprint>(
+    rt: &R,
+    block: &[u8],
+    held: usize,
+    line: &mut [u8],
+    out: &mut [u8],
+) -> Printed
     requires { Lent held line.old out.old }
     ensures { work (marks result.next result.held result.sent) line.new out.new ≡ fill (start held line.old out.old) block.now }
 {
     let m = lines::fill(block, held, line, out);
     let at = m.at;
-    let h = hand_over(&out[..at]);
+    let h = hand_over(rt, &out[..at]);
     Printed {
         next: m.next,
         held: m.held,
@@ -70,7 +82,13 @@ struct Used {
 }
 
 // A whole block, part after part, unless the output fails.
-fn print_block(block: &[u8], held: usize, line: &mut [u8], out: &mut [u8]) -> Used
+fn print_block<R: Print + Eprint>(
+    rt: &R,
+    block: &[u8],
+    held: usize,
+    line: &mut [u8],
+    out: &mut [u8],
+) -> Used
     requires { Lent held line.old out.old }
     ensures held_bound { result.held ≤ KEPT }
     ensures through { Through (start held line.old out.old) block.now (start result.held line.new out.new) result.whole }
@@ -81,7 +99,7 @@ fn print_block(block: &[u8], held: usize, line: &mut [u8], out: &mut [u8]) -> Us
         whole: true,
     };
     while next < block.len() {
-        let p = print_some(&block[next..], here.held, line, out);
+        let p = print_some(rt, &block[next..], here.held, line, out);
         here = Used {
             held: p.held,
             whole: p.whole,
@@ -95,12 +113,12 @@ fn print_block(block: &[u8], held: usize, line: &mut [u8], out: &mut [u8]) -> Us
 }
 
 // The answer of the last line, where no line feed ended it.
-fn print_last(held: usize, line: &[u8], out: &mut [u8]) -> Handed
+fn print_last<R: Print + Eprint>(rt: &R, held: usize, line: &[u8], out: &mut [u8]) -> Handed
     requires { Lent held line.now out.old }
     ensures { Laid out.old 0 (finish_text (start held line.now out.old)) result.bytes out.new }
 {
     let last = lines::finish(line, held, out);
-    hand_over(&out[..last])
+    hand_over(rt, &out[..last])
 }
 
 // One turn: how many bytes were read, how many of the line are then held, whether there is more to read, and whether all has gone well so far.
@@ -113,25 +131,33 @@ struct Outcome {
 }
 
 // One read. At the input's end the last line is answered; an input that cannot be read has not ended.
-fn turn(held: usize, line: &mut [u8], block: &mut [u8], out: &mut [u8]) -> Outcome
+fn turn<R: Print + Eprint, I: Read>(
+    rt: &R,
+    input: &mut I,
+    held: usize,
+    line: &mut [u8],
+    block: &mut [u8],
+    out: &mut [u8],
+) -> Outcome
     requires { Lent held line.old out.old }
     ensures held_bound { result.held ≤ KEPT }
     ensures through { result.more ≡ true → Through (start held line.old out.old) (take result.got block.new) (start result.held line.new out.new) true }
     ensures out_after { result.more ≡ false → result.well ≡ true → out.new ≡ sets out.old 0 (finish_text (start held line.old out.old)) }
 {
-    let read = libc::read(STDIN_FILENO, block);
-    if read < 0 {
-        os::fail(b"cells: the input cannot be read");
-        return Outcome {
-            got: 0,
-            held: 0,
-            more: false,
-            well: false,
-        };
-    }
-    let n = io::count(read, block);
+    let n = match input.read(block) {
+        Ok(n) => n,
+        Err(cause) => {
+            let _ = eprintln!(rt; "cells: the input cannot be read: {cause}");
+            return Outcome {
+                got: 0,
+                held: 0,
+                more: false,
+                well: false,
+            };
+        }
+    };
     if n == 0 {
-        let last = print_last(held, line, out);
+        let last = print_last(rt, held, line, out);
         return Outcome {
             got: 0,
             held: 0,
@@ -139,7 +165,7 @@ fn turn(held: usize, line: &mut [u8], block: &mut [u8], out: &mut [u8]) -> Outco
             well: last.whole,
         };
     }
-    let used = print_block(&block[..n], held, line, out);
+    let used = print_block(rt, &block[..n], held, line, out);
     Outcome {
         got: n,
         held: used.held,
@@ -150,14 +176,20 @@ fn turn(held: usize, line: &mut [u8], block: &mut [u8], out: &mut [u8]) -> Outco
 
 // Turn after turn, until the input ends or something fails: whether all was read and written. A proved loop has to end, and nothing says that an
 // input does: so the turns are counted down from a number that no run uses up.
-fn run(line: &mut [u8], block: &mut [u8], out: &mut [u8]) -> bool
+fn run<R: Print + Eprint, I: Read>(
+    rt: &R,
+    input: &mut I,
+    line: &mut [u8],
+    block: &mut [u8],
+    out: &mut [u8],
+) -> bool
     requires { Lent 0 line.old out.old }
     ensures { result ≡ true → Ran (start 0 line.old out.old) out.new }
 {
     let mut held = 0;
     let mut turns = u64::MAX;
     while turns > 0 {
-        let t = turn(held, line, block, out);
+        let t = turn(rt, input, held, line, block, out);
         if !t.more {
             return t.well;
         }
@@ -167,26 +199,14 @@ fn run(line: &mut [u8], block: &mut [u8], out: &mut [u8]) -> bool
     false
 }
 
-// Closes standard output, where a disc over the network may say only now that it is full.
-fn close_output() -> bool {
-    if libc::close(STDOUT_FILENO) == 0 {
-        return true;
-    }
-    os::fail(b"cells: the output cannot be written");
-    false
-}
-
-fn main() {
+fn main(rt: HostRuntime) -> ExitCode {
     let mut line = [0u8; 21];
-    let mut block = io::large_buffer();
-    let mut out = io::large_buffer();
-    let mut well = run(&mut line, &mut block, &mut out);
-    if well {
-        well = close_output();
-    }
-    if well {
-        io::write_all(VERDICT, b"0");
+    let mut block = [0u8; 65536];
+    let mut out = [0u8; 65536];
+    let mut input = rt.stdin();
+    if run(&rt, &mut input, &mut line, &mut block, &mut out) {
+        ExitCode::SUCCESS
     } else {
-        io::write_all(VERDICT, b"1");
+        ExitCode::FAILURE
     }
 }

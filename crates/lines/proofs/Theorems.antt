@@ -147,7 +147,7 @@ runs line out input h k = run_of input (start 0 line out) refl refl (record { fe
 -- ---- the program's turns make a run
 
 -- what was handed over part by part, and a run from there on, are a run from the start on
-printing_runs : {w v : Work} {block left output : List ℕ} → Printing w block v left output
+printing_runs : {w : Work} {block : List ℕ} {v : Work} {left output : List ℕ} → Printing w block v left output
     → (rest : List ℕ) {after : List ℕ} → Run v (left ++ rest) after → Run w (block ++ rest) (output ++ after)
 printing_runs none rest run = run
 printing_runs {w} {block = block} (part {v} {left} {output} p) rest {after} run =

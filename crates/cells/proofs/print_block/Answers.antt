@@ -1,51 +1,52 @@
 -- `cells::print_block` meets its contract. The measure is what is left of the block. Assumes nothing.
-use Prim.Native.Nat.{◌+◌, ◌-◌, ◌<◌}
+use Prim.Native.Nat.{◌+◌, ◌<◌}
 use native.Mathlib.Omega.{arith}
 use borrow.Author.Rules.{rules}
 use borrow.Author.Tests.{not-true}
 use Rattle.cells.proofs.Blocks.{not_both, Came, begins, goes_on, ends}
+use Rattle.cells.proofs.print_block.Given.{Over}
 use Rattle.cells.proofs.print_block.Goals as goal
 use Rattle.cells.proofs.print_block.Goals.{After-print_some-p}
 
 -- a part more has been printed
-more : (c : After-print_some-p) → let s = c.args in let p = c.print_some-p in Came s.block.now s.held s.line.now s.out.now (c.loop-next.next + p.result.next) p.result.held p.new.1.1.0 p.new.1.1.1.0 × (0 < p.result.next)
-more c = goes_on c.loop-next.invariant c.loop-next-test.true c.print_some-p.ensures
+more : (g : Over) (c : After-print_some-p g) → let s = c.args in let p = c.print_some-p in Came s.block.now s.held s.line.now s.out.now (c.loop-next.next + p.result.next) p.result.held p.new.line p.new.out × (0 < p.result.next)
+more g c = goes_on c.loop-next.invariant c.loop-next-test.true c.print_some-p.ensures
 
 pub loop-next-init : goal.loop-next-init
-loop-next-init c = begins _ c.requires
+loop-next-init g c = begins _ c.requires
 
 pub slice_bounds-print_some-count : goal.slice_bounds-print_some-count
-slice_bounds-print_some-count c = c.loop-next.invariant.inside
+slice_bounds-print_some-count g c = c.loop-next.invariant.inside
 
 pub slice_bounds-print_some-start : goal.slice_bounds-print_some-start
-slice_bounds-print_some-start c = let i = c.loop-next.invariant.inside in search (rules, i)
+slice_bounds-print_some-start g c = let i = c.loop-next.invariant.inside in search (rules, i)
 
 pub print_some-p-requires : goal.print_some-p-requires
-print_some-p-requires c = c.loop-next.invariant.lent
+print_some-p-requires g c = c.loop-next.invariant.lent
 
 pub shape_of-line-then-not-p : goal.shape_of-line-then-not-p
-shape_of-line-then-not-p c = (more (goal.at.shape_of-line-then-not-p c).After-print_some-p).0.same_line
+shape_of-line-then-not-p g c = (more g (goal.at.shape_of-line-then-not-p g c).After-print_some-p).0.same_line
 
 pub shape_of-out-then-not-p : goal.shape_of-out-then-not-p
-shape_of-out-then-not-p c = (more (goal.at.shape_of-out-then-not-p c).After-print_some-p).0.same_out
+shape_of-out-then-not-p g c = (more g (goal.at.shape_of-out-then-not-p g c).After-print_some-p).0.same_out
 
 pub returns-then-not-p : goal.returns-then-not-p
-returns-then-not-p c = let m = (more (goal.at.returns-then-not-p c).After-print_some-p).0 in (m.lent.few, ends m _ (λ e. not_both e (not-true _ c.if-not-p.true)))
+returns-then-not-p g c = let m = (more g (goal.at.returns-then-not-p g c).After-print_some-p).0 in record { held_bound = m.lent.few; through = ends m _ (λ e. not_both e (not-true _ c.if-not-p.true)) }
 
 pub overflow_add-next : goal.overflow_add-next
-overflow_add-next c = omega (arith, (more (goal.at.overflow_add-next c).After-print_some-p).0.inside, c.well_formed)
+overflow_add-next g c = omega (arith, (more g (goal.at.overflow_add-next g c).After-print_some-p).0.inside, c.well_formed)
 
 pub loop-next-smaller : goal.loop-next-smaller
-loop-next-smaller c = omega (arith, (more (goal.at.loop-next-smaller c).After-print_some-p).1, (more (goal.at.loop-next-smaller c).After-print_some-p).0.inside)
+loop-next-smaller g c = omega (arith, (more g (goal.at.loop-next-smaller g c).After-print_some-p).1, (more g (goal.at.loop-next-smaller g c).After-print_some-p).0.inside)
 
 pub loop-next-preserved : goal.loop-next-preserved
-loop-next-preserved c = (more (goal.at.loop-next-preserved c).After-print_some-p).0
+loop-next-preserved g c = (more g (goal.at.loop-next-preserved g c).After-print_some-p).0
 
 pub shape_of-line : goal.shape_of-line
-shape_of-line c = c.loop-next.invariant.same_line
+shape_of-line g c = c.loop-next.invariant.same_line
 
 pub shape_of-out : goal.shape_of-out
-shape_of-out c = c.loop-next.invariant.same_out
+shape_of-out g c = c.loop-next.invariant.same_out
 
 pub returns : goal.returns
-returns c = let i = c.loop-next.invariant in (i.lent.few, ends i _ (λ _. c.loop-next-test.false))
+returns g c = let i = c.loop-next.invariant in record { held_bound = i.lent.few; through = ends i _ (λ _. c.loop-next-test.false) }

@@ -5,7 +5,7 @@ use Rattle.cells.proofs.Blocks.{Came}
 use Rattle.cells.proofs.print_block.Given as goal
 
 abbrev pub invariant-loop-next : goal.invariant-loop-next
-invariant-loop-next l = Came l.block l.held l.initial.line l.initial.out l.next l.here.held l.line l.out
+invariant-loop-next g l = Came l.block l.held l.initial.line l.initial.out l.next l.here.held l.line l.out
 
 abbrev pub decreases-loop-next : goal.decreases-loop-next
-decreases-loop-next l = length l.block - l.next
+decreases-loop-next g l = length l.block - l.next

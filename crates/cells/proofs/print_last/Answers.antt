@@ -5,19 +5,19 @@ use lib.ListN.{length}
 use lib.Seq.{length-take-le}
 use Rattle.lines.proofs.Filling.{last_inside}
 use Rattle.cells.proofs.Blocks.{all_handed}
+use Rattle.cells.proofs.print_last.Given.{Over}
 use Rattle.cells.proofs.print_last.Goals as goal
 use Rattle.cells.proofs.print_last.Goals.{After-finish-last}
 
 -- the answer lies within the output
-inside : (c : After-finish-last) → c.finish-last.result ≤ length c.finish-last.new.out
-inside c = last_inside c.requires c.finish-last.ensures
+inside : (g : Over) (c : After-finish-last g) → c.finish-last.result ≤ length c.finish-last.new.out
+inside g c = last_inside c.requires c.finish-last.ensures
 
 pub slice_bounds-hand_over-end : goal.slice_bounds-hand_over-end
-slice_bounds-hand_over-end c = inside (goal.at.slice_bounds-hand_over-end c).After-finish-last
+slice_bounds-hand_over-end g c = inside g (goal.at.slice_bounds-hand_over-end g c).After-finish-last
 
 pub slice_bounds-hand_over-end-2 : goal.slice_bounds-hand_over-end-2
-slice_bounds-hand_over-end-2 c = sym (length-take-le _ _ (inside (goal.at.slice_bounds-hand_over-end-2 c).After-finish-last))
+slice_bounds-hand_over-end-2 g c = sym (length-take-le _ _ (inside g (goal.at.slice_bounds-hand_over-end-2 g c).After-finish-last))
 
 pub returns : goal.returns
-returns c = let f = c in
-    rw (all_handed f.finish.result f.finish.new.1.1.0 (inside (goal.at.returns c).After-finish-last) c.hand_over.ensures) f.finish.ensures
+returns g c = rw (all_handed c.finish-last.result c.finish-last.new.out (inside g (goal.at.returns g c).After-finish-last) c.hand_over.ensures) c.finish-last.ensures

@@ -7,41 +7,41 @@ use Rattle.cells.proofs.Turns.{first_turn, next_turn, last_turn}
 use Rattle.cells.proofs.run.Goals as goal
 
 pub loop-turns-init : goal.loop-turns-init
-loop-turns-init c = first_turn c.requires
+loop-turns-init g c = first_turn c.requires
 
 pub turn-t-requires : goal.turn-t-requires
-turn-t-requires c = c.loop-turns.invariant.lent
+turn-t-requires g c = c.loop-turns.invariant.lent
 
 pub shape_of-line-then-not-t : goal.shape_of-line-then-not-t
-shape_of-line-then-not-t c = c.turn-t.auto.1.0 ∙ c.loop-turns.invariant.same_line
+shape_of-line-then-not-t g c = c.turn-t.auto.line ∙ c.loop-turns.invariant.same_line
 
 pub shape_of-block-then-not-t : goal.shape_of-block-then-not-t
-shape_of-block-then-not-t c = c.turn-t.auto.1.1.0 ∙ c.loop-turns.invariant.same_block
+shape_of-block-then-not-t g c = c.turn-t.auto.block ∙ c.loop-turns.invariant.same_block
 
 pub shape_of-out-then-not-t : goal.shape_of-out-then-not-t
-shape_of-out-then-not-t c = c.turn-t.auto.1.1.1.0 ∙ c.loop-turns.invariant.same_out
+shape_of-out-then-not-t g c = c.turn-t.auto.out ∙ c.loop-turns.invariant.same_out
 
 pub returns-then-not-t : goal.returns-then-not-t
-returns-then-not-t c = λ e. last_turn c.loop-turns.invariant (c.turn-t.ensures.1.1 (not-true _ c.if-not-t.true) e)
+returns-then-not-t g c = λ e. last_turn c.loop-turns.invariant (c.turn-t.ensures.out_after (not-true _ c.if-not-t.true) e)
 
 pub overflow_sub-turns : goal.overflow_sub-turns
-overflow_sub-turns c = omega (arith, c.loop-turns-test.true)
+overflow_sub-turns g c = omega (arith, c.loop-turns-test.true)
 
 pub loop-turns-smaller : goal.loop-turns-smaller
-loop-turns-smaller c = omega (arith, c.loop-turns-test.true)
+loop-turns-smaller g c = omega (arith, c.loop-turns-test.true)
 
 pub loop-turns-preserved : goal.loop-turns-preserved
-loop-turns-preserved c = let t = c.turn-t in
-    next_turn c.loop-turns.invariant t.auto.1.0 t.auto.1.1.0 t.auto.1.1.1.0 t.ensures.0 (t.ensures.1.0 (not-false _ c.if-not-t.false))
+loop-turns-preserved g c = let t = c.turn-t in
+    next_turn c.loop-turns.invariant t.auto.line t.auto.block t.auto.out t.ensures.held_bound (t.ensures.through (not-false _ c.if-not-t.false))
 
 pub shape_of-line : goal.shape_of-line
-shape_of-line c = c.loop-turns.invariant.same_line
+shape_of-line g c = c.loop-turns.invariant.same_line
 
 pub shape_of-block : goal.shape_of-block
-shape_of-block c = c.loop-turns.invariant.same_block
+shape_of-block g c = c.loop-turns.invariant.same_block
 
 pub shape_of-out : goal.shape_of-out
-shape_of-out c = c.loop-turns.invariant.same_out
+shape_of-out g c = c.loop-turns.invariant.same_out
 
 pub returns : goal.returns
-returns c = λ e. not_both e refl
+returns g c = λ e. not_both e refl

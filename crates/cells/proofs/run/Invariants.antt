@@ -3,7 +3,7 @@ use Rattle.cells.proofs.Turns.{Kept}
 use Rattle.cells.proofs.run.Given as goal
 
 abbrev pub invariant-loop-turns : goal.invariant-loop-turns
-invariant-loop-turns l = Kept l.initial.line l.initial.block l.initial.out l.held l.line l.block l.out
+invariant-loop-turns g l = Kept l.initial.line l.initial.block l.initial.out l.held l.line l.block l.out
 
 abbrev pub decreases-loop-turns : goal.decreases-loop-turns
-decreases-loop-turns l = l.turns
+decreases-loop-turns g l = l.turns

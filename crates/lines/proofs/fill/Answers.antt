@@ -1,7 +1,7 @@
 -- `lines::fill` meets its contract: at each turn what is left of the block gives what the whole of it was to give.
 -- Assumes nothing.
 use mathlib.Core.Path.{◌≡◌, refl, sym, ◌∙◌}
-use Prim.Native.Nat.{◌+◌, ◌-◌, ◌≤◌}
+use Prim.Native.Nat.{◌+◌, ◌≤◌}
 use native.Mathlib.Omega.{arith}
 use lib.ListN.{length}
 use Rattle.lines.specs.Filling.{ROOM}
@@ -12,7 +12,7 @@ use Rattle.lines.proofs.fill.Goals.{After-take_byte-here, Else-out-here-lt128}
 room : (c : Else-out-here-lt128) → c.loop-here.here.at + ROOM ≤ length c.loop-here.out
 room c = omega (arith, c.if-out-here-lt128.false, c.loop-here.invariant.ready.inside)
 
-next : (c : After-take_byte-here) → let s = c.args in let t = c.take_byte-here in Going s.block.now s.held s.line.now s.out.now t.result t.new.1.1.0 t.new.1.1.1.0 × (t.result.next ≡ c.loop-here.here.next + 1)
+next : (c : After-take_byte-here) → let s = c.args in let t = c.take_byte-here in Going s.block.now s.held s.line.now s.out.now t.result t.new.line t.new.out × (t.result.next ≡ c.loop-here.here.next + 1)
 next c = goes_on c.loop-here.invariant c.loop-here-test.true ((let it : c.loop-here.here.at + ROOM ≤ length c.loop-here.out = omega (arith, c.if-out-here-lt128.false, c.loop-here.invariant.ready.inside) in it)) c.take_byte-here.ensures
 
 pub loop-here-init : goal.loop-here-init
@@ -34,7 +34,7 @@ pub bounds-block-i : goal.bounds-block-i
 bounds-block-i c = c.loop-here-test.true
 
 pub take_byte-here-requires : goal.take_byte-here-requires
-take_byte-here-requires c = (c.loop-here.invariant.ready, (omega (arith, c.loop-here-test.true, c.well_formed), room (goal.at.take_byte-here-requires c).Else-out-here-lt128))
+take_byte-here-requires c = record { marks_within = c.loop-here.invariant.ready; next_bound = (omega (arith, c.loop-here-test.true, c.well_formed), room (goal.at.take_byte-here-requires c).Else-out-here-lt128) }
 
 pub loop-here-smaller : goal.loop-here-smaller
 loop-here-smaller c = omega (arith, (next (goal.at.loop-here-smaller c).After-take_byte-here).1, c.loop-here-test.true)

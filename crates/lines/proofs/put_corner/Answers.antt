@@ -9,7 +9,7 @@ west : (c : After-put_signed-next) → Laid c.args.out.now c.args.at (signed_tex
 west c = laid_same (handed 32 c.ranges.west) c.put_signed-next.ensures
 
 pub put_signed-requires : goal.put_signed-requires
-put_signed-requires c =     laid_room (west (goal.at.put_signed-requires c).After-put_signed-next) 22 22 (signed_length c.args.west 32) c.requires
+put_signed-requires c = laid_room (west (goal.at.put_signed-requires c).After-put_signed-next) 22 22 (signed_length c.args.west 32) c.requires
 
 pub returns : goal.returns
-returns c =     laid_then (west (goal.at.returns c).After-put_signed-next) (laid_same (handed 32 c.ranges.south) c.put_signed.ensures)
+returns c = laid_then (west (goal.at.returns c).After-put_signed-next) (laid_same (handed 32 c.ranges.south) c.put_signed.ensures)

@@ -29,14 +29,14 @@ pub shape_of-out-then-upper : goal.shape_of-out-then-upper
 shape_of-out-then-upper c = laid_length c.put_number.ensures
 
 pub returns-then-upper : goal.returns-then-upper
-returns-then-upper c =     rw (
-      signed_above c.args.z c.args.end (sided (goal.at.returns-then-upper c).After-upper ∙ c.if-upper.true),
-      indexed (goal.at.returns-then-upper c).After-outward-n,
-    )
+returns-then-upper c = rw (
+  signed_above c.args.z c.args.end (sided (goal.at.returns-then-upper c).After-upper ∙ c.if-upper.true),
+  indexed (goal.at.returns-then-upper c).After-outward-n,
+)
     c.put_number.ensures
 
 pub overflow_add-n : goal.overflow_add-n
-overflow_add-n c =  record { fits = omega (arith, indexed (goal.at.overflow_add-n c).After-outward-n, index_fits c.args.z c.ranges.z) }
+overflow_add-n c = record { fits = omega (arith, indexed (goal.at.overflow_add-n c).After-outward-n, index_fits c.args.z c.ranges.z) }
 
 pub put_number-requires-2 : goal.put_number-requires-2
 put_number-requires-2 c = simp length-set (omega arith)
@@ -45,8 +45,8 @@ pub shape_of-out : goal.shape_of-out
 shape_of-out c = laid_length c.put_number-2.ensures ∙ simp length-set
 
 pub returns : goal.returns
-returns c =     rw (
-      signed_below c.args.z c.args.end (sided (goal.at.returns c).After-upper ∙ c.if-upper.false),
-      indexed (goal.at.returns c).After-outward-n,
-    )
+returns c = rw (
+  signed_below c.args.z c.args.end (sided (goal.at.returns c).After-upper ∙ c.if-upper.false),
+  indexed (goal.at.returns c).After-outward-n,
+)
     (laid_then (laid_byte _ _ _) c.put_number-2.ensures)

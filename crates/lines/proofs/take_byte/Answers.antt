@@ -6,13 +6,13 @@ use Rattle.lines.proofs.Filling.{on_feed, on_kept, on_past}
 use Rattle.lines.proofs.take_byte.Goals as goal
 
 pub slice_bounds-answer-end-then-b-eq10 : goal.slice_bounds-answer-end-then-b-eq10
-slice_bounds-answer-end-then-b-eq10 c =  sym (length-take-le s.args.m.held s.args.line.now (omega (arith, s.requires.0.few, s.requires.0.long)))
+slice_bounds-answer-end-then-b-eq10 c = sym (length-take-le c.args.m.held c.args.line.now (omega (arith, c.requires.marks_within.few, c.requires.marks_within.long)))
 
 pub returns-then-b-eq10 : goal.returns-then-b-eq10
-returns-then-b-eq10 c =  on_feed s.args.b s.args.m s.args.line.now s.args.out.now c.before.before.before.before.before.if1.true c.answer-at.ensures
+returns-then-b-eq10 c = on_feed c.args.b c.args.m c.args.line.now c.args.out.now c.if-b-eq10.true c.answer-at.ensures
 
 pub returns-then-held-lt21 : goal.returns-then-held-lt21
-returns-then-held-lt21 c =  on_kept c.args.b c.args.m c.args.line.now c.args.out.now c.if-b-eq10.false c.if-held-lt21.true
+returns-then-held-lt21 c = on_kept c.args.b c.args.m c.args.line.now c.args.out.now c.if-b-eq10.false c.if-held-lt21.true
 
 pub returns : goal.returns
-returns c =  on_past c.args.b c.args.m c.args.line.now c.args.out.now c.if-b-eq10.false c.if-held-lt21.false
+returns c = on_past c.args.b c.args.m c.args.line.now c.args.out.now c.if-b-eq10.false c.if-held-lt21.false
