@@ -3,13 +3,13 @@
 # bindings say one version: it names what breaks this, and fails if something does.
 set -u
 cd "$(dirname "$(dirname "$(readlink -f "$0")")")" || exit 1
-crates=$(awk -F: '!/^#/ && NF > 1 { printf "%s%s", sep, $1; sep = "|" }' crates.txt)
+crates=$(awk -F: '!/^#/ && NF > 1 { split($1, word, " "); printf "%s%s", sep, word[1]; sep = "|" }' crates.txt)
 pattern="^(
 README.md|crates.txt|rustfmt.toml|build|run|check|.gitignore|.ci/[a-z]+|
 crates/($crates)/(src/[a-z_/]+.rt|(specs|proofs)/[^ ]+.antt|must-fail/[a-z_]+.edit|stdin|stdout|args)|
 docs/[A-Z-]+.md|docs/landings/[^ /]+.md|docs/pictures/[^ /]+.svg|
 include/hailgully.(h|pc)|examples/[a-z_]+.(c|stdout)|
-(tests|bench|bindings/raw|bindings/rust)/([a-z0-9_/]+.(rs|c|h|sh|py|txt)|README.md|Cargo.(toml|lock))
+(tests|tools|bench|bindings/raw|bindings/rust)/([a-z0-9_/]+.(rs|c|h|sh|py|txt)|README.md|Cargo.(toml|lock))
 )\$"
 pattern=${pattern//$'\n'/}
 files=$(git ls-files) && [ -n "$files" ] || { echo 'files: git names no file here' && exit 1; }

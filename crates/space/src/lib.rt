@@ -21,7 +21,7 @@ ghost use Rattle.space.specs.Space.{layered_text, space_text_at, space_text_in, 
 ghost use Rattle.space.specs.inner.Asking.{SpaceFits};
 ghost use Rattle.space.specs.inner.Parts.{space_level_of, earlier, heights_in, heights_read, BadWithin, joined_answer};
 
-use grid::{Cell, Place, PlaneRead, Refusal, SpaceCell, Written};
+use grid::{Place, PlaneRead, Refusal, SpaceCell, Written};
 use layers::{AskedEdition, AskedLayer, LayersRead};
 use plane::{AskedLevel, AskedPosition};
 
