@@ -1,10 +1,9 @@
 -- The store after the walk leaves the book as it is said to be left: where a record is used, and where none is.
 -- Assumes nothing.
 use mathlib.Core.Path.{◌≡◌, refl, sym, ◌∙◌, ap, subst}
-use Prim.Native.Nat.{ℕ, zero, suc, ◌<◌, ◌≤◌}
-use native.Mathlib.Nat.{not-suc-le-zero, le_of_suc-le-suc}
+use Prim.Native.Nat.{ℕ, ◌<◌, ◌≤◌}
 use native.Mathlib.Omega.{arith}
-use mathlib.Core.List.{List, [], ◌∷◌}
+use mathlib.Core.List.{List}
 use lib.ListN.{length, set, get_or-eq_default}
 use lib.Seq.{get_or-set_same, set_out}
 use Rattle.grid.specs.Answers.{Answer, accepted, refused}

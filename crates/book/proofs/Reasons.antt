@@ -116,11 +116,11 @@ module _ (a : Reservation) (book : List Reservation) where
       ready = record { short = short; record_is = refl }
 
       go : (x : Bool) → leb (length book) same ≡ x → (y : Bool) → leb (length book) conflict_place ≡ y → (z : Bool) → ltb free_place (length book) ≡ z
-          → WhyAdd (accepted a) book (unless x (refusal 15 0) (unless y (refusal 16 conflict_place) (unless z (refusal 17 0) (accepted free_place))))
-      go false ex y ey z ez = already a ready same (first_is f (leb-false _ _ ex)).holds
-      go true ex false ey z ez = conflict a ready (nowhere_is f (leb-true _ _ ex)) conflict_place (first_is c (leb-false _ _ ey))
-      go true ex true ey false ez = full a ready (nowhere_is f (leb-true _ _ ex)) (nowhere_is c (leb-true _ _ ey)) (nowhere_is (free_tells book) (ltb-false _ _ ez))
-      go true ex true ey true ez = added a ready (nowhere_is f (leb-true _ _ ex)) (nowhere_is c (leb-true _ _ ey)) free_place (first_is (free_tells book) (ltb-true _ _ ez))
+          → WhyAdd (accepted a) book (add_at (length book) same conflict_place free_place)
+      go false ex y ey z ez = rw ex (already a ready same (first_is f (leb-false _ _ ex)).holds)
+      go true ex false ey z ez = rw (ex, ey) (conflict a ready (nowhere_is f (leb-true _ _ ex)) conflict_place (first_is c (leb-false _ _ ey)))
+      go true ex true ey false ez = rw (ex, ey, ez) (full a ready (nowhere_is f (leb-true _ _ ex)) (nowhere_is c (leb-true _ _ ey)) (nowhere_is (free_tells book) (ltb-false _ _ ez)))
+      go true ex true ey true ez = rw (ex, ey, ez) (added a ready (nowhere_is f (leb-true _ _ ex)) (nowhere_is c (leb-true _ _ ey)) free_place (first_is (free_tells book) (ltb-true _ _ ez)))
 
   -- what is answered where the tests are known
   module _ (s : length book ≤ 256) where

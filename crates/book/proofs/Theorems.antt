@@ -3,7 +3,7 @@
 use mathlib.Core.Path.{◌≡◌, refl, ◌∙◌, ap, subst}
 use mathlib.Core.Logic.{◌↔◌}
 use mathlib.Core.Bool.{Bool, true, false}
-use Prim.Native.Nat.{ℕ, ◌+◌, ◌-◌, ◌≤◌, ◌<◌}
+use Prim.Native.Nat.{ℕ, ◌≤◌}
 use native.Mathlib.Omega.{arith}
 use mathlib.Core.List.{List}
 use lib.Dec.{ltb, le→leb, leb→le}
@@ -17,7 +17,7 @@ use Rattle.grid.specs.declared.SpaceCell.{SpaceCell}
 use Rattle.grid.specs.Units.{Cube}
 use Rattle.grid.specs.Answers.{Answer, accepted, refused, refusal, unless, and_then}
 use Rattle.grid.specs.Cells.{Within, CoversCube}
-use Rattle.grid.specs.Layers.{ours, product, all, floor_of, thickness_of}
+use Rattle.grid.specs.Layers.{ours}
 use Rattle.grid.specs.Plane.{cell_of}
 use Rattle.grid.specs.Space.{space_cell_of}
 use Rattle.grid.proofs.Answers.{accepted_inj, unless_accepted, then_from}
@@ -46,19 +46,19 @@ space_reserves code flight start end a e =
     (f.0, f.1, r.0, r.1)
 
 -- the record of a plane code, over so many layers from a floor on that they are those from the lowest to the highest
-module _ (floor : ℤ) (n : ℕ) (lowest highest : ℤ) (same : (z : ℤ) → Within floor n z ↔ ((lowest ≤ℤ z) × (z ≤ℤ highest))) where
-  column_cubes : (c : Cell) (s : Cube) → CoversCube (over floor n c) s ↔ InColumn lowest highest c s
+module _ (floor : Cell → ℤ) (n : Cell → ℕ) (lowest highest : ℤ) (same : (c : Cell) (z : ℤ) → Within (floor c) (n c) z ↔ ((lowest ≤ℤ z) × (z ≤ℤ highest))) where
+  column_cubes : (c : Cell) (s : Cube) → CoversCube (over (floor c) (n c) c) s ↔ InColumn lowest highest c s
   column_cubes c s = (
-    λ x. let z = (same s.1).0 x.high in record { square = x.plan; not_below = z.0; not_above = z.1 },
-    λ x. record { plan = x.square; high = (same s.1).1 (x.not_below, x.not_above) },
+    λ x. let z = (same c s.1).0 x.high in record { square = x.plan; not_below = z.0; not_above = z.1 },
+    λ x. record { plan = x.square; high = (same c s.1).1 (x.not_below, x.not_above) },
   )
 
-  over_reserves : (code : List ℕ) (flight start end : ℕ) (a : Reservation) → and_then (cell_of code) (λ c. reserved flight start end (over floor n c)) ≡ accepted a
+  over_reserves : (code : List ℕ) (flight start end : ℕ) (a : Reservation) → and_then (cell_of code) (λ c. reserved flight start end (over (floor c) (n c) c)) ≡ accepted a
       → (c : Cell) × (cell_of code ≡ accepted c) × (a.space.cell ≡ c) × Reserves flight start end (InColumn lowest highest c) a
   over_reserves code flight start end a e =
       let f = then_from (cell_of code) _ a e in
-      let h = reserves flight start end (over floor n f.0) a f.2 in
-      let r : Reserves flight start end (CoversCube (over floor n f.0)) a = h.1 in (
+      let h = reserves flight start end (over (floor f.0) (n f.0) f.0) a f.2 in
+      let r : Reserves flight start end (CoversCube (over (floor f.0) (n f.0) f.0)) a = h.1 in (
         f.0,
         f.1,
         ap (λ (z : SpaceCell). z.cell) h.0,
@@ -66,35 +66,37 @@ module _ (floor : ℤ) (n : ℕ) (lowest highest : ℤ) (same : (z : ℤ) → Wi
       )
 
 -- -1,887,436,800 to 1,887,436,799
-all_layers : (z : ℤ) → Within (floor_of (product ours) all) (thickness_of (product ours) all) z ↔ ((neg_ℤ (pos 1887436800) ≤ℤ z) × (z ≤ℤ pos 1887436799))
-all_layers (pos n) = (
-  λ x. let h : 1887436799 + 1 + n < 3774873600 = x.ends in (le_z_yes tt, le_z_yes (le→leb n 1887436799 (omega arith))),
-  λ x. let h : n ≤ 1887436799 = leb→le n 1887436799 x.1.le in record { starts = refl; ends = omega arith },
+all_layers : (c : Cell) (z : ℤ) → Within (column c).floor (column c).thickness z ↔ ((neg_ℤ (pos 1887436800) ≤ℤ z) × (z ≤ℤ pos 1887436799))
+all_layers c (pos n) = (
+  λ x. (le_z_yes tt, le_z_yes (le→leb n 1887436799 (omega (arith, x.ends)))),
+  λ x. let h : n ≤ 1887436799 = leb→le n 1887436799 x.1.le in record { starts = omega arith; ends = omega arith },
 )
-all_layers (negsuc n) = (
-  λ x. let h : n - 1887436799 ≡ 0 = x.starts in (le_z_yes (le→leb n 1887436799 (omega arith)), le_z_yes tt),
+all_layers c (negsuc n) = (
+  λ x. (le_z_yes (le→leb n 1887436799 (omega (arith, x.starts))), le_z_yes tt),
   λ x. let h : n ≤ 1887436799 = leb→le n 1887436799 x.0.le in record { starts = omega arith; ends = omega arith },
 )
 
 -- 0 to 1,887,436,799
-ground_layers : (z : ℤ) → Within (pos 0) (product ours) z ↔ ((pos 0 ≤ℤ z) × (z ≤ℤ pos 1887436799))
-ground_layers (pos n) = (
-  λ x. let h : n - 0 < 1887436800 = x.ends in (le_z_yes (le→leb 0 n (omega arith)), le_z_yes (le→leb n 1887436799 (omega arith))),
+ground_layers : (c : Cell) (z : ℤ) → Within (ground_column c).floor (ground_column c).thickness z ↔ ((pos 0 ≤ℤ z) × (z ≤ℤ pos 1887436799))
+ground_layers c (pos n) = (
+  λ x. (le_z_yes (le→leb 0 n (omega arith)), le_z_yes (le→leb n 1887436799 (omega (arith, x.ends)))),
   λ x. let h : n ≤ 1887436799 = leb→le n 1887436799 x.1.le in record { starts = omega arith; ends = omega arith },
 )
-ground_layers (negsuc n) = (λ x. absurd (let e : n + 1 + 0 ≡ 0 = x.starts in omega arith), λ x. absurd x.0.le)
+ground_layers c (negsuc n) = (λ x. absurd (omega (arith, x.starts)), λ x. absurd x.0.le)
 
 -- a plane code's record holds its cell, and names exactly the cubes over it in layers -1,887,436,800 to 1,887,436,799, and its minutes
 pub plane_reserves : (code : List ℕ) (flight start end : ℕ) (a : Reservation) → plane_record code flight start end ≡ accepted a
     → (c : Cell) × (cell_of code ≡ accepted c) × (a.space.cell ≡ c) × Reserves flight start end (InPlane c) a
 unfolding plane_record
-plane_reserves code flight start end a e = over_reserves (floor_of (product ours) all) (thickness_of (product ours) all) (neg_ℤ (pos 1887436800)) (pos 1887436799) all_layers code flight start end a e
+plane_reserves code flight start end a e =
+    over_reserves (λ c. (column c).floor) (λ c. (column c).thickness) (neg_ℤ (pos 1887436800)) (pos 1887436799) all_layers code flight start end a e
 
 -- and in the ground call in layers 0 to 1,887,436,799
 pub ground_reserves : (code : List ℕ) (flight start end : ℕ) (a : Reservation) → ground_record code flight start end ≡ accepted a
     → (c : Cell) × (cell_of code ≡ accepted c) × (a.space.cell ≡ c) × Reserves flight start end (InGround c) a
 unfolding ground_record
-ground_reserves code flight start end a e = over_reserves (pos 0) (product ours) (pos 0) (pos 1887436799) ground_layers code flight start end a e
+ground_reserves code flight start end a e =
+    over_reserves (λ c. (ground_column c).floor) (λ c. (ground_column c).thickness) (pos 0) (pos 1887436799) ground_layers code flight start end a e
 
 -- ---- 6, 7 and 14
 

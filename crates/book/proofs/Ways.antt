@@ -16,7 +16,7 @@ use Rattle.book.specs.declared.Ask.{Ask}
 use Rattle.book.specs.declared.Task.{Task}
 use Rattle.book.specs.declared.View.{View}
 use Rattle.book.specs.Asking.{reserved, to_add}
-use Rattle.book.specs.Book.{live, add_at, release_at, answer_to}
+use Rattle.book.specs.Book.{add_at, release_at, answer_to}
 use Rattle.book.specs.inner.Scan.{views, begin_by, begin_of, passed_by, free_seen, found, conflict_seen, look_of, seen_by, seen_answer}
 
 -- ---- what is asked

@@ -8,7 +8,6 @@ use Rattle.book.specs.declared.Ask.{Ask}
 use Rattle.book.specs.declared.Task.{Task}
 use Rattle.book.specs.declared.Task.TheVariants.{Add, Release, Refused}
 use Rattle.book.specs.declared.Booked.{Booked}
-use Rattle.book.specs.declared.Booked.TheVariants as Booked
 use Rattle.book.specs.Asking.{blank}
 
 -- ---- one record

@@ -1,5 +1,3 @@
 pub mod Boxes
-pub mod Lending
-pub mod Adds
 pub mod Parts
 pub mod Determined

@@ -10,13 +10,15 @@ use Rattle.book.specs.Asking.{over, reserved, to_add}
 use Rattle.book.proofs.ask_over.Goals as goal
 
 pub returns-in-Found : goal.returns-in-Found
-returns-in-Found c =     let read = c.read.ensures in
-    let cell = c.in-Found.c in
+returns-in-Found c =
+    let s = c.args in
+    let read = c.read.ensures in
     c.reserve.ensures
-    ∙ ap (λ (z : SpaceCell). to_add (reserved c.args.flight c.args.start c.args.end z)) (c.over.ensures ∙ ap (λ (z : ℤ). over z c.args.thickness cell.0.0) (to_z-of_z c.ranges.floor))
-    ∙ ap to_add (then_accepted (λ (y : Cell). reserved c.args.flight c.args.start c.args.end (over c.args.floor c.args.thickness y)) (sym read ∙ ap plane_read cell.1))
+    ∙ ap (λ (z : SpaceCell). to_add (reserved s.flight s.start s.end z)) (c.over.ensures ∙ ap (λ (z : ℤ). over z s.thickness c.in-Found.c) (to_z-of_z c.ranges.floor))
+    ∙ ap to_add (then_accepted (λ (y : Cell). reserved s.flight s.start s.end (over s.floor s.thickness y)) (sym read ∙ ap plane_read c.in-Found.is))
 
 pub returns-in-Refused : goal.returns-in-Refused
-returns-in-Refused c = let s = c.args in
+returns-in-Refused c =
+    let s = c.args in
     let read = c.read.ensures in
     c.ask_nothing.ensures ∙ ap to_add (then_refused (λ (y : Cell). reserved s.flight s.start s.end (over s.floor s.thickness y)) (sym read ∙ ap plane_read c.in-Refused.is))

@@ -7,10 +7,10 @@ pub returns-then-v-gt-MOST : goal.returns-then-v-gt-MOST
 returns-then-v-gt-MOST c = decide_long c.args.q c.args.v c.if-v-gt-MOST.true c.refuse.ensures
 
 pub returns-in-Add : goal.returns-in-Add
-returns-in-Add c = decide_short c.args.q c.args.v c.if-v-gt-MOST.false c.enum_told-1.given.1 c.adding.ensures
+returns-in-Add c = decide_short c.args.q c.args.v c.if-v-gt-MOST.false c.in-Add.is c.adding.ensures
 
 pub returns-in-Release : goal.returns-in-Release
-returns-in-Release c = decide_short c.args.q c.args.v c.if-v-gt-MOST.false c.enum_told-in-Release-1.given.1 c.releasing.ensures
+returns-in-Release c = decide_short c.args.q c.args.v c.if-v-gt-MOST.false c.in-Release.is c.releasing.ensures
 
 pub returns-in-Refused : goal.returns-in-Refused
 returns-in-Refused c = decide_short c.args.q c.args.v c.if-v-gt-MOST.false c.in-Refused.is refl

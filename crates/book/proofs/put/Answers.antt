@@ -3,10 +3,10 @@ use mathlib.Core.Path.{refl}
 use Rattle.book.proofs.put.Goals as goal
 
 pub returns-in-Add : goal.returns-in-Add
-returns-in-Add c = rw c.enum_told-1.given.1 refl
+returns-in-Add c = rw c.in-Add.is refl
 
 pub returns-in-Release : goal.returns-in-Release
-returns-in-Release c = rw (c.off.ensures, c.enum_told-in-Release-1.given.1) refl
+returns-in-Release c = rw (c.off.ensures, c.in-Release.is) refl
 
 pub returns-in-Refused : goal.returns-in-Refused
 returns-in-Refused c = rw c.in-Refused.is refl
