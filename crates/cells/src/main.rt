@@ -4,13 +4,15 @@
 // all of the input was read and all of the answers were written, and 1 where not.
 #![tactic(auto)]
 
-ghost use Rattle.std.specs.Prelude.{◌≡◌, true, false, ◌≤◌, length, take};
+ghost use Rattle.std.specs.Prelude.{◌≡◌, true, false, ◌≤◌, ◌<◌, [], length, take, IfSome};
+ghost use Rattle.std.specs.Io.KnownBytes.{Appends, Consumes, IsAtEnd};
 ghost use Rattle.std.proofs.lemmas.List.Edits.{sets};
+ghost use Rattle.lines.specs.Lines.{output_of};
 ghost use Rattle.lines.specs.Filling.{KEPT, marks, work, start, fill};
 ghost use Rattle.lines.specs.Run.{finish_text, Through, Ran};
 ghost use Rattle.lines.specs.inner.Buffers.{Laid, Lent};
 
-use std::io::{Eprint, ErrorKind, Print, Read};
+use std::io::{Eprint, ErrorKind, Read, Write};
 use std::process::ExitCode;
 
 // What was handed to the output: how many bytes, and whether it took all of them.
@@ -20,12 +22,13 @@ struct Handed {
     whole: bool,
 }
 
-// A text is handed to standard output. A failure is said at once; where nobody reads the output any more, the program ends as quietly as other filters.
-fn hand_over<R: Print + Eprint>(rt: &R, text: &[u8]) -> Handed
-    ensures { result.bytes ≡ length text.now }
+// A text is handed to the output. A failure is said at once; where nobody reads the output any more, the program ends as quietly as other filters.
+fn hand_over<R: Eprint, W: Write>(rt: &R, to: &mut W, text: &[u8]) -> Handed
+    ensures bytes { result.bytes ≡ length text.now }
+    ensures written { result.whole ≡ true → Appends (W.contents to.old) (W.contents to.new) text.now }
 {
     let bytes = text.len();
-    match rt.write_all(text) {
+    match to.write_all(text) {
         Ok(()) => Handed {
             bytes: bytes,
             whole: true,
@@ -53,19 +56,21 @@ struct Printed {
 }
 
 // As much of a block as there is room for is filled in and handed over.
-fn print_some<R: Print + Eprint>(
+fn print_some<R: Eprint, W: Write>(
     rt: &R,
+    to: &mut W,
     block: &[u8],
     held: usize,
     line: &mut [u8],
     out: &mut [u8],
 ) -> Printed
     requires { Lent held line.old out.old }
-    ensures { work (marks result.next result.held result.sent) line.new out.new ≡ fill (start held line.old out.old) block.now }
+    ensures filled { work (marks result.next result.held result.sent) line.new out.new ≡ fill (start held line.old out.old) block.now }
+    ensures written { result.whole ≡ true → Appends (W.contents to.old) (W.contents to.new) (take result.sent out.new) }
 {
     let m = lines::fill(block, held, line, out);
     let at = m.at;
-    let h = hand_over(rt, &out[..at]);
+    let h = hand_over(rt, to, &out[..at]);
     Printed {
         next: m.next,
         held: m.held,
@@ -82,8 +87,9 @@ struct Used {
 }
 
 // A whole block, part after part, unless the output fails.
-fn print_block<R: Print + Eprint>(
+fn print_block<R: Eprint, W: Write>(
     rt: &R,
+    to: &mut W,
     block: &[u8],
     held: usize,
     line: &mut [u8],
@@ -92,6 +98,8 @@ fn print_block<R: Print + Eprint>(
     requires { Lent held line.old out.old }
     ensures held_bound { result.held ≤ KEPT }
     ensures through { Through (start held line.old out.old) block.now (start result.held line.new out.new) result.whole }
+    ensures written { result.whole ≡ true → (t : Through (start held line.old out.old) block.now (start result.held line.new out.new) true)
+        × Appends (W.contents to.old) (W.contents to.new) t.output }
 {
     let mut next = 0;
     let mut here = Used {
@@ -99,7 +107,7 @@ fn print_block<R: Print + Eprint>(
         whole: true,
     };
     while next < block.len() {
-        let p = print_some(rt, &block[next..], here.held, line, out);
+        let p = print_some(rt, to, &block[next..], here.held, line, out);
         here = Used {
             held: p.held,
             whole: p.whole,
@@ -113,12 +121,19 @@ fn print_block<R: Print + Eprint>(
 }
 
 // The answer of the last line, where no line feed ended it.
-fn print_last<R: Print + Eprint>(rt: &R, held: usize, line: &[u8], out: &mut [u8]) -> Handed
+fn print_last<R: Eprint, W: Write>(
+    rt: &R,
+    to: &mut W,
+    held: usize,
+    line: &[u8],
+    out: &mut [u8],
+) -> Handed
     requires { Lent held line.now out.old }
-    ensures { Laid out.old 0 (finish_text (start held line.now out.old)) result.bytes out.new }
+    ensures laid { Laid out.old 0 (finish_text (start held line.now out.old)) result.bytes out.new }
+    ensures written { result.whole ≡ true → Appends (W.contents to.old) (W.contents to.new) (finish_text (start held line.now out.old)) }
 {
     let last = lines::finish(line, held, out);
-    hand_over(rt, &out[..last])
+    hand_over(rt, to, &out[..last])
 }
 
 // One turn: how many bytes were read, how many of the line are then held, whether there is more to read, and whether all has gone well so far.
@@ -131,9 +146,10 @@ struct Outcome {
 }
 
 // One read. At the input's end the last line is answered; an input that cannot be read has not ended.
-fn turn<R: Print + Eprint, I: Read>(
+fn turn<R: Eprint, I: Read, W: Write>(
     rt: &R,
     input: &mut I,
+    to: &mut W,
     held: usize,
     line: &mut [u8],
     block: &mut [u8],
@@ -142,6 +158,11 @@ fn turn<R: Print + Eprint, I: Read>(
     requires { Lent held line.old out.old }
     ensures held_bound { result.held ≤ KEPT }
     ensures through { result.more ≡ true → Through (start held line.old out.old) (take result.got block.new) (start result.held line.new out.new) true }
+    ensures read { result.more ≡ true → Consumes (I.remaining input.old) (I.remaining input.new) (take result.got block.new) }
+    ensures written { result.more ≡ true → (t : Through (start held line.old out.old) (take result.got block.new) (start result.held line.new out.new) true)
+        × Appends (W.contents to.old) (W.contents to.new) t.output }
+    ensures ended { result.more ≡ false → result.well ≡ true → 0 < length block.old → Consumes (I.remaining input.old) (I.remaining input.new) [] × IsAtEnd (I.remaining input.new) }
+    ensures answered { result.more ≡ false → result.well ≡ true → Appends (W.contents to.old) (W.contents to.new) (finish_text (start held line.old out.old)) }
     ensures out_after { result.more ≡ false → result.well ≡ true → out.new ≡ sets out.old 0 (finish_text (start held line.old out.old)) }
 {
     let n = match input.read(block) {
@@ -157,7 +178,7 @@ fn turn<R: Print + Eprint, I: Read>(
         }
     };
     if n == 0 {
-        let last = print_last(rt, held, line, out);
+        let last = print_last(rt, to, held, line, out);
         return Outcome {
             got: 0,
             held: 0,
@@ -165,7 +186,7 @@ fn turn<R: Print + Eprint, I: Read>(
             well: last.whole,
         };
     }
-    let used = print_block(rt, &block[..n], held, line, out);
+    let used = print_block(rt, to, &block[..n], held, line, out);
     Outcome {
         got: n,
         held: used.held,
@@ -176,20 +197,23 @@ fn turn<R: Print + Eprint, I: Read>(
 
 // Turn after turn, until the input ends or something fails: whether all was read and written. A proved loop has to end, and nothing says that an
 // input does: so the turns are counted down from a number that no run uses up.
-fn run<R: Print + Eprint, I: Read>(
+fn run<R: Eprint, I: Read, W: Write>(
     rt: &R,
     input: &mut I,
+    to: &mut W,
     line: &mut [u8],
     block: &mut [u8],
     out: &mut [u8],
 ) -> bool
     requires { Lent 0 line.old out.old }
-    ensures { result ≡ true → Ran (start 0 line.old out.old) out.new }
+    ensures ran { result ≡ true → Ran (start 0 line.old out.old) out.new }
+    ensures prints { result ≡ true → 0 < length block.old
+        → IfSome (I.remaining input.old) (λ bytes. Appends (W.contents to.old) (W.contents to.new) (output_of bytes)) }
 {
     let mut held = 0;
     let mut turns = u64::MAX;
     while turns > 0 {
-        let t = turn(rt, input, held, line, block, out);
+        let t = turn(rt, input, to, held, line, block, out);
         if !t.more {
             return t.well;
         }
@@ -204,7 +228,8 @@ fn main(rt: HostRuntime) -> ExitCode {
     let mut block = [0u8; 65536];
     let mut out = [0u8; 65536];
     let mut input = rt.stdin();
-    if run(&rt, &mut input, &mut line, &mut block, &mut out) {
+    let mut to = rt.stdout();
+    if run(&rt, &mut input, &mut to, &mut line, &mut block, &mut out) {
         ExitCode::SUCCESS
     } else {
         ExitCode::FAILURE

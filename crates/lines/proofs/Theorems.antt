@@ -53,7 +53,7 @@ long_same u v (b ∷ w) h k =
 abbrev printed : Work → List ℕ → List ℕ
 printed w i = take w.marked.at w.out ++ after (line_in w) i
 
-take_sets : (l : List ℕ) (at : ℕ) (v : List ℕ) → at + length v ≤ length l → take (at + length v) (sets l at v) ≡ take at l ++ v
+pub take_sets : (l : List ℕ) (at : ℕ) (v : List ℕ) → at + length v ≤ length l → take (at + length v) (sets l at v) ≡ take at l ++ v
 take_sets l at v h =
     ap (take (at + length v)) (sets-eq v l at h)
     ∙ take_at (take at l ++ v) (drop (at + length v) l) (at + length v) (rw (length-append, length-take-le at l (omega arith)))

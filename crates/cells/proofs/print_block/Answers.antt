@@ -2,15 +2,15 @@
 use Prim.Native.Nat.{◌+◌, ◌<◌}
 use native.Mathlib.Omega.{arith}
 use borrow.Author.Rules.{rules}
-use borrow.Author.Tests.{not-true}
-use Rattle.cells.proofs.Blocks.{not_both, Came, begins, goes_on, ends}
+use borrow.Author.Tests.{not-true, not-false}
+use Rattle.cells.proofs.Blocks.{not_both, Came, begins, goes_on, went_on, ends, ends_written}
 use Rattle.cells.proofs.print_block.Given.{Over}
 use Rattle.cells.proofs.print_block.Goals as goal
 use Rattle.cells.proofs.print_block.Goals.{After-print_some-p}
 
 -- a part more has been printed
-more : (g : Over) (c : After-print_some-p g) → let s = c.args in let p = c.print_some-p in Came s.block.now s.held s.line.now s.out.now (c.loop-next.next + p.result.next) p.result.held p.new.line p.new.out × (0 < p.result.next)
-more g c = goes_on c.loop-next.invariant c.loop-next-test.true c.print_some-p.ensures
+more : (g : Over) (c : After-print_some-p g) → let s = c.args in let p = c.print_some-p in Came s.block.now s.held s.line.now s.out.now (g.W.Write.contents s.to.now) (c.loop-next.next + p.result.next) p.result.held p.new.line p.new.out (g.W.Write.contents p.new.to) p.result.whole × (0 < p.result.next)
+more g c = goes_on c.loop-next.invariant c.loop-next-test.true c.print_some-p.ensures.filled c.print_some-p.ensures.written
 
 pub loop-next-init : goal.loop-next-init
 loop-next-init g c = begins _ c.requires
@@ -31,7 +31,7 @@ pub shape_of-out-then-not-p : goal.shape_of-out-then-not-p
 shape_of-out-then-not-p g c = (more g (goal.at.shape_of-out-then-not-p g c).After-print_some-p).0.same_out
 
 pub returns-then-not-p : goal.returns-then-not-p
-returns-then-not-p g c = let m = (more g (goal.at.returns-then-not-p g c).After-print_some-p).0 in record { held_bound = m.lent.few; through = ends m _ (λ e. not_both e (not-true _ c.if-not-p.true)) }
+returns-then-not-p g c = let m = (more g (goal.at.returns-then-not-p g c).After-print_some-p).0 in record { held_bound = m.lent.few; through = ends m _ (λ e. not_both e (not-true _ c.if-not-p.true)); written = λ e. not_both e (not-true _ c.if-not-p.true) }
 
 pub overflow_add-next : goal.overflow_add-next
 overflow_add-next g c = omega (arith, (more g (goal.at.overflow_add-next g c).After-print_some-p).0.inside, c.well_formed)
@@ -40,7 +40,7 @@ pub loop-next-smaller : goal.loop-next-smaller
 loop-next-smaller g c = omega (arith, (more g (goal.at.loop-next-smaller g c).After-print_some-p).1, (more g (goal.at.loop-next-smaller g c).After-print_some-p).0.inside)
 
 pub loop-next-preserved : goal.loop-next-preserved
-loop-next-preserved g c = (more g (goal.at.loop-next-preserved g c).After-print_some-p).0
+loop-next-preserved g c = went_on (more g (goal.at.loop-next-preserved g c).After-print_some-p).0 (not-false _ c.if-not-p.false)
 
 pub shape_of-line : goal.shape_of-line
 shape_of-line g c = c.loop-next.invariant.same_line
@@ -49,4 +49,4 @@ pub shape_of-out : goal.shape_of-out
 shape_of-out g c = c.loop-next.invariant.same_out
 
 pub returns : goal.returns
-returns g c = let i = c.loop-next.invariant in record { held_bound = i.lent.few; through = ends i _ (λ _. c.loop-next-test.false) }
+returns g c = let i = c.loop-next.invariant in record { held_bound = i.lent.few; through = ends i _ (λ _. c.loop-next-test.false); written = λ _. ends_written i c.loop-next-test.false }

@@ -24,4 +24,6 @@ pub slice_bounds-hand_over-end-2 : goal.slice_bounds-hand_over-end-2
 slice_bounds-hand_over-end-2 g c = let e = counted g (goal.at.slice_bounds-hand_over-end-2 g c).After-fill-m in search (rules, e)
 
 pub returns : goal.returns
-returns g c = rw (all_handed c.fill-m.result.at c.fill-m.new.out (inside g (goal.at.returns g c).After-fill-m) c.hand_over-h.ensures) c.fill-m.ensures
+returns g c =
+    let a = all_handed c.fill-m.result.at c.fill-m.new.out (inside g (goal.at.returns g c).After-fill-m) c.hand_over-h.ensures.bytes in
+    record { filled = rw a c.fill-m.ensures; written = λ e. rw a (c.hand_over-h.ensures.written e) }
