@@ -2,6 +2,7 @@ pub mod Ways
 pub mod Places
 pub mod Scanning
 pub mod Carrying
+pub mod Tells
 pub mod Reasons
 pub mod Safe
 pub mod Theorems
