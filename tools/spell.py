@@ -3,8 +3,8 @@
 
     python3 tools/spell.py          at the top of the repository, once, right after the kit's port.py
 
-It turns whole words alone: in definitions and proofs; in the clauses and imports of the code; in the texts of must-fail edits; and in what documents
-and comments put between backquotes. A name is one that a file of specs/ or proofs/ declares. Functions, C names, types, texts between double quotes and
+It turns whole words alone: in definitions and proofs; in the clauses and imports of the code; and in the texts of must-fail edits. Of what documents and
+comments put between backquotes it leaves each last word, and these were turned after it. A name is one that a file of specs/ or proofs/ declares. Functions, C names, types, texts between double quotes and
 what the checker itself names (behind `tie.` or `c.`) keep theirs. Where a law would fall together with a definition in one file, APART says its new
 name. It says how many names it turned, and fails where two names that one file says fall together.
 """
