@@ -214,7 +214,9 @@ static int64_t about(int64_t least, int64_t greatest) {
 
 int main(int words, char **word) {
     set_up();
-    if (words > 1 && strcmp(word[1], "outside") == 0) hg_plane_read(lend(CODE, NULL, ROOM) + ROOM - 3, 4);
+    static uint8_t cut[ROOM]; /* a code of level 1 whose last character lies outside: a reader has to look at it, the three before it being right */
+    memcpy(cut + ROOM - 3, "N31", 3);
+    if (words > 1 && strcmp(word[1], "outside") == 0) hg_plane_read(lend(CODE, cut, ROOM) + ROOM - 3, 4);
     if (words > 1 && strcmp(word[1], "code") == 0) hg_plane_write(1, 0, 0, lend(CODE, NULL, 4), 4, 0);
     static const hg_reservation live = {.live = 1};
     if (words > 1 && strcmp(word[1], "book") == 0)

@@ -24,8 +24,13 @@ for function in $(grep -h -o -E '^ *pub (extern "C" )?fn [a-z_]+' crates/*/src/*
   grep -q -w -e "$function" docs/CONTRACTS.md || { echo "statements: docs/CONTRACTS.md does not name the function $function" && status=1; }
 done
 
-if grep -n -E '(^|[^A-Za-z])Refusal \{' crates/*/src/*.rt | grep -v '^crates/grid/'; then
+# a line that ends in `-> Refusal {` or `for Refusal {` is the head of a function or of an impl, in which `Self {` would make one
+if grep -n -E '(^|[^A-Za-z])Refusal \{' crates/*/src/*.rt | grep -v -E '^crates/grid/|(-> |for )Refusal \{$'; then
   echo 'statements: a refusal is made here, and not by grid'
+  status=1
+fi
+if awk '/^impl .* for Refusal \{$/ { inside = 1 } /^\}/ { inside = 0 } inside && /Self \{/ && !/-> Self \{$/ { print FILENAME ": " FNR ": " $0; bad = 1 } END { exit !bad }' crates/*/src/*.rt; then
+  echo 'statements: a refusal is made here by Self, and not by grid'
   status=1
 fi
 

@@ -3,9 +3,14 @@
 use mathlib.Core.Path.{◌≡◌, refl, sym, ap, ◌∙◌, subst}
 use mathlib.Core.Bool.{Bool, true, false, not, cond}
 use Prim.Native.Nat.{ℕ, suc, ◌+◌, ◌-◌, ◌*◌, ◌/◌, ◌^◌, ◌<◌}
-use native.Mathlib.Nat.{mul_assoc, mul_comm, mul_left_comm, mul_right_comm, mul-pos, lt_of_lt_of_le, eq_of_mul-eq-mul_right, le_of_lt, mul-lt-mul_of_pos_right}
+use native.Mathlib.Nat.{lt_of_le_of_lt, mul_assoc, mul_comm, mul_left_comm, mul_right_comm, mul-pos, lt_of_lt_of_le, eq_of_mul-eq-mul_right, le_of_lt, mul-lt-mul_of_pos_right}
 use lib.IntN.{ℤ, pos, negsuc, nat_abs}
 use lib.Dec.{T, lit<, lit≤}
+use lib.Signed.{nat_abs-le}
+use native.Mathlib.Omega.{arith}
+use mir.Syntax.{w32}
+use mir.Val.{Fits, SFits, to_z, of_z}
+use mir.Facts.{to_z-of_z}
 use lib.Pow.{pow_pos}
 use lib.Ieee.{Float, nan, inf, fin, Format, binary64, up, down, prec, low, hid, top, size, round, div, of_int, to_bits, of_bits, fits}
 use lib.Ieee.Fits.{down_pos, div-fits}
@@ -15,6 +20,7 @@ use lib.Ieee.Nearest.{div_same}
 use lib.Ieee.Back.{round_whole}
 use Rattle.grid.specs.Units.{side}
 use Rattle.arcseconds.specs.Boxes.{SecondsOf, Exactly}
+use Rattle.arcseconds.specs.inner.Axis.{SecondsFrom}
 
 -- ---- the division
 
@@ -68,6 +74,14 @@ exactly u h =
       value = subst (λ (k : Float). SecondsOf u (div binary64 (of_int binary64 u) k)) (sym two11_is) (div_value u (of_int binary64 u) h (of_int_value u h));
       held = div-fits binary64 _ _;
     }
+
+-- what `seconds` gives for a corner's number, as it is handed over
+pub corner : (u : ℤ) {x : Float} → SFits w32 u → SecondsFrom (λ (f : Float). f ≡ of_int binary64 (to_z w32 (of_z w32 u))) x → Exactly u x
+corner u held e = e u (lt_of_le_of_lt (nat_abs-le u held.sfits) (lit< tt)) (λ f h. h ∙ ap (of_int binary64) (to_z-of_z held))
+
+-- and for a size
+pub size_of : (n : ℕ) {x : Float} → Fits w32 n → SecondsFrom (λ (f : Float). f ≡ of_int binary64 (pos n)) x → Exactly (pos n) x
+size_of n held e = e (pos n) (omega (arith, held.fits)) (λ f h. h)
 
 -- ---- two f64 of one sign and size are one
 

@@ -1,3 +1,4 @@
+pub mod Exits
 pub mod Whole
 pub mod Pattern
 pub mod Number

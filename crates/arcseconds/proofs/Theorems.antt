@@ -9,6 +9,9 @@ use Prim.Native.Nat.{ℕ, ◌*◌, ◌≤◌}
 use lib.IntN.{ℤ, pos, negsuc, nat_abs}
 use lib.Ieee.{Float, fin, binary64, up, down, is_nan, of_bits}
 use lib.Ieee.Fits.{down_pos}
+use Rattle.std.specs.Prelude.{Result, Ok, Err}
+use Rattle.grid.specs.declared.Refusal.{Refusal}
+use Rattle.grid.specs.Answers.{answer_of}
 use Rattle.grid.specs.declared.Cell.{Cell}
 use Rattle.grid.specs.Units.{HALF, QUARTER}
 use Rattle.grid.specs.Answers.{Answer, accepted, refused, refusal}
@@ -17,12 +20,8 @@ use Rattle.grid.proofs.Cut.{clash}
 use Rattle.grid.proofs.Ends.{size_below}
 use Rattle.grid.proofs.Ranges.{plane_in_ranges}
 use Rattle.arcseconds.specs.declared.Units.{Units}
-use Rattle.arcseconds.specs.declared.UnitsRead.{UnitsRead}
-use Rattle.arcseconds.specs.declared.UnitsRead.TheVariants as units-read
 use Rattle.arcseconds.specs.declared.ArcBox.{ArcBox}
-use Rattle.arcseconds.specs.declared.BoxRead.{BoxRead}
-use Rattle.arcseconds.specs.declared.BoxRead.TheVariants.{Found, Refused}
-use Rattle.arcseconds.specs.Readings.{greatest_whole, reading_of, units, units_at, units_of, units_read, Floors, Why}
+use Rattle.arcseconds.specs.Readings.{greatest_whole, reading_of, units, units_at, units_of, Floors, Why}
 use Rattle.arcseconds.specs.Boxes.{SecondsOf, BoxOf, BoxSays}
 use Rattle.arcseconds.proofs.Whole.{whole_is}
 use Rattle.arcseconds.proofs.Exact.{one_exactly}
@@ -48,11 +47,11 @@ pub units_back : (u v : ℤ) (x y : Float) → nat_abs u ≤ HALF → nat_abs v 
 units_back u v x y a b p q = both_whole x y u v (seconds_whole 2 HALF u x a p) (seconds_whole 3 QUARTER v y b q)
 
 -- a box that a plane code gets has the west and south of the code's cell, which read back as the same units
-pub box_back : (w : List ℕ) (b : ArcBox) → BoxSays (cell_of w) (Found b) → (c : Cell) × (cell_of w ≡ accepted c) × (units_of b.west b.south ≡ accepted (units c.west c.south))
+pub box_back : (w : List ℕ) (b : ArcBox) → BoxSays (cell_of w) (Ok b) → (c : Cell) × (cell_of w ≡ accepted c) × (units_of b.west b.south ≡ accepted (units c.west c.south))
 unfolding BoxSays
 box_back w b h = go (cell_of w) refl h
   where
-    go : (a : Answer Cell) → cell_of w ≡ a → BoxSays a (Found b) → (c : Cell) × (cell_of w ≡ accepted c) × (units_of b.west b.south ≡ accepted (units c.west c.south))
+    go : (a : Answer Cell) → cell_of w ≡ a → BoxSays a (Ok b) → (c : Cell) × (cell_of w ≡ accepted c) × (units_of b.west b.south ≡ accepted (units c.west c.south))
     go (accepted c) e v =
         let i = plane_in_ranges w c e in
         (c, e, units_back c.west c.south b.west b.south (size_below HALF c.west i.west_in) (size_below QUARTER c.south i.rows_in.begins_in) v.west_is.value v.south_is.value)
@@ -60,14 +59,14 @@ box_back w b h = go (cell_of w) refl h
 
 -- ---- each contract allows one result
 
-pub one_units_read : (x y : Float) (a b : UnitsRead) → units_read a ≡ units_of x y → units_read b ≡ units_of x y → a ≡ b
+pub one_units_read : (x y : Float) (a b : Result Units Refusal) → answer_of a ≡ units_of x y → answer_of b ≡ units_of x y → a ≡ b
 one_units_read x y a b p q = same a b (p ∙ sym q)
   where
-    same : (a b : UnitsRead) → units_read a ≡ units_read b → a ≡ b
-    same (units-read.Found u) (units-read.Found v) h = cc
-    same (units-read.Found u) (units-read.Refused r) h = clash (cc)
-    same (units-read.Refused r) (units-read.Found u) h = clash (cc)
-    same (units-read.Refused r) (units-read.Refused s) h = cc
+    same : (a b : Result Units Refusal) → answer_of a ≡ answer_of b → a ≡ b
+    same (Ok u) (Ok v) h = cc
+    same (Ok u) (Err r) h = clash (cc)
+    same (Err r) (Ok u) h = clash (cc)
+    same (Err r) (Err s) h = cc
 
 pub one_box : (c : Cell) (a b : ArcBox) → BoxOf c a → BoxOf c b → a ≡ b
 one_box c a b p q =
@@ -77,14 +76,14 @@ one_box c a b p q =
     box : Float → Float → Float → Float → ArcBox
     box w s x y = record { west = w; south = s; width = x; height = y }
 
-pub one_box_read : (r : Answer Cell) (a b : BoxRead) → BoxSays r a → BoxSays r b → a ≡ b
+pub one_box_read : (r : Answer Cell) (a b : Result ArcBox Refusal) → BoxSays r a → BoxSays r b → a ≡ b
 unfolding BoxSays
-one_box_read (accepted c) (Found a) (Found b) p q = ap Found (one_box c a b p q)
-one_box_read (accepted c) (Found a) (Refused s) p q = absurd q
-one_box_read (accepted c) (Refused r) b p q = absurd p
-one_box_read (refused r) (Found a) b p q = absurd p
-one_box_read (refused r) (Refused s) (Found b) p q = absurd q
-one_box_read (refused r) (Refused s) (Refused t) p q = ap Refused (p ∙ sym q)
+one_box_read (accepted c) (Ok a) (Ok b) p q = ap Ok (one_box c a b p q)
+one_box_read (accepted c) (Ok a) (Err s) p q = absurd q
+one_box_read (accepted c) (Err r) b p q = absurd p
+one_box_read (refused r) (Ok a) b p q = absurd p
+one_box_read (refused r) (Err s) (Ok b) p q = absurd q
+one_box_read (refused r) (Err s) (Err t) p q = ap Err (p ∙ sym q)
 
 -- ---- worked cases, by computing: bit patterns of f64
 

@@ -1,14 +1,13 @@
 -- The box in arc-seconds: each unit count divided by 2048, exactly (document 01, "Arc-seconds").
 -- Assumes nothing.
-use Rattle.std.specs.Prelude.{◌≡◌, not, ◌*◌, ℤ, pos, nat_abs, T, Float}
+use Rattle.std.specs.Prelude.{◌≡◌, not, ◌*◌, ℤ, pos, nat_abs, T, Float, Result, Ok, Err}
 use Rattle.std.specs.Float.{nan, inf, fin, binary64}
 use Rattle.std.specs.Float.Ieee.{up, down, fits}
 use Rattle.grid.specs.declared.Cell.{Cell}
+use Rattle.grid.specs.declared.Refusal.{Refusal}
 use Rattle.grid.specs.Units.{side}
 use Rattle.grid.specs.Answers.{Answer, accepted, refused}
 use Rattle.arcseconds.specs.declared.ArcBox.{ArcBox}
-use Rattle.arcseconds.specs.declared.BoxRead.{BoxRead}
-use Rattle.arcseconds.specs.declared.BoxRead.TheVariants.{Found, Refused}
 
 -- x is u / 2048: finite, below 0 where u is, and m * 2 ^ e * 2048 = |u|, multiplied clear of the power of two; 0 is +0.0
 unfoldable pub SecondsOf : ℤ → Float → Type 0
@@ -29,8 +28,8 @@ pub record BoxOf (c : Cell) (b : ArcBox) : Type 0 where
   pub height_is : Exactly (pos c.height) b.height
 
 -- what a box asked for by plane code is, given what the code reads as: the cell's box, or the same refusal
-unfoldable pub BoxSays : Answer Cell → BoxRead → Type 0
-BoxSays (accepted c) (Found b) = BoxOf c b
-BoxSays (accepted c) (Refused r) = ⊥
-BoxSays (refused r) (Found b) = ⊥
-BoxSays (refused r) (Refused s) = s ≡ r
+unfoldable pub BoxSays : Answer Cell → Result ArcBox Refusal → Type 0
+BoxSays (accepted c) (Ok b) = BoxOf c b
+BoxSays (accepted c) (Err r) = ⊥
+BoxSays (refused r) (Ok b) = ⊥
+BoxSays (refused r) (Err s) = s ≡ r

@@ -9,8 +9,6 @@ use Rattle.grid.specs.Units.{HALF, QUARTER}
 use Rattle.grid.specs.Ends.{in_range}
 use Rattle.grid.specs.Answers.{Answer, accepted, refused, refusal, unless, and_then}
 use Rattle.arcseconds.specs.declared.Units.{Units}
-use Rattle.arcseconds.specs.declared.UnitsRead.{UnitsRead}
-use Rattle.arcseconds.specs.declared.UnitsRead.TheVariants.{Found, Refused}
 
 -- the greatest whole number not above n / d, or not above - n / d where s is true
 abbrev pub greatest_whole : Bool → ℕ → ℕ → ℤ
@@ -37,11 +35,6 @@ units_at x y = and_then x (λ u. and_then y (λ v. accepted (units u v)))
 unfoldable pub units_of : Float → Float → Answer Units
 units_of x y =
     unless (not (is_nan x || is_nan y)) (refusal 11 0) (units_at (reading_of 2 HALF x) (reading_of 3 QUARTER y))
-
--- the answer in the paper's numbers: the units, or the refusal
-abbrev pub units_read : UnitsRead → Answer Units
-units_read (Found u) = accepted u
-units_read (Refused r) = refused r
 
 -- ---- what it means that units are the greatest whole ones not above a reading
 

@@ -1,53 +1,56 @@
--- The store after the walk leaves the book as it is said to be left: where a record is used, and where none is.
+-- What is written is what is said to be left of the book: where a record is used, and where none is.
 -- Assumes nothing.
-use mathlib.Core.Path.{◌≡◌, refl, sym, ◌∙◌, ap, subst}
+use mathlib.Core.Path.{◌≡◌, refl, sym, subst}
 use Prim.Native.Nat.{ℕ, ◌<◌, ◌≤◌}
-use native.Mathlib.Omega.{arith}
 use mathlib.Core.List.{List}
-use lib.ListN.{length, set, get_or-eq_default}
-use lib.Seq.{get_or-set_same, set_out}
-use Rattle.grid.specs.Answers.{Answer, accepted, refused}
+use lib.Dec.{leb}
+use lib.ListN.{length, set}
+use lib.Seq.{get_or-set_same}
+use borrow.Author.Tests.{le-leb}
+use Rattle.std.specs.Prelude.{Ok, Err}
+use Rattle.grid.specs.declared.Refusal.{Refusal}
+use Rattle.grid.specs.Answers.{Answer, accepted, refused, refusal}
+use Rattle.grid.proofs.Answers.{unless_accepted}
+use Rattle.grid.proofs.Cut.{clash}
 use Rattle.reservations.specs.declared.Reservation.{Reservation}
-use Rattle.book.specs.declared.Ask.{Ask}
-use Rattle.book.specs.declared.Booked.{Booked}
-use Rattle.book.specs.Asking.{blank}
-use Rattle.book.specs.Book.{record_at, answer_to, becomes, leaves, carried, used_in, booked}
-use Rattle.book.specs.inner.Scan.{used_place}
+use Rattle.book.specs.declared.Task.{Task}
+use Rattle.book.specs.declared.Task.TheVariants.{Add, Release}
+use Rattle.book.specs.Asking.{Ask, blank}
+use Rattle.book.proofs.Reasons.{added_free, released_flies}
+use Rattle.book.specs.Book.{record_at, asked, answer_to, becomes, leaves, carried, used_in}
+
+-- what a call hands back: the answer, the record used, and the book
+abbrev pub Carried : Ask → List Reservation → Answer ℕ → Reservation → List Reservation → Type 0
+Carried q book x r zs = (x ≡ (carried q book).0) × (r ≡ used_in (carried q book)) × (zs ≡ (carried q book).1)
 
 module _ (q : Ask) (book : List Reservation) where
-  -- what the walk hands back: the answer, the record used, and the book
-  abbrev pub Carried : Booked → Reservation → List Reservation → Type 0
-  Carried d r zs = (booked d ≡ (carried q book).0) × (r ≡ used_in (carried q book)) × (zs ≡ (carried q book).1)
+  -- a refusal uses no record, and leaves the book
+  pub carried_refused : (e : Refusal) → answer_to q book ≡ refused e → Carried q book (refused e) blank book
+  unfolding carried
+  carried_refused e a = subst (λ (x : Answer ℕ). (refused e ≡ x) × (blank ≡ used_in (x, leaves q x book)) × (book ≡ leaves q x book)) (sym a) (refl, refl, refl)
 
-  abbrev Left : Answer ℕ → Reservation → List Reservation → Type 0
-  Left a r zs = (r ≡ used_in (a, leaves q a book)) × (zs ≡ leaves q a book)
+  -- the record at the place becomes what it is said to become
+  pub carried_used : (k : ℕ) → answer_to q book ≡ accepted k → k < length book → (r : Reservation) → r ≡ becomes q (record_at book k) → Carried q book (accepted k) r (set book k r)
+  unfolding carried
+  carried_used k a l r e =
+      subst (λ (x : Answer ℕ). (accepted k ≡ x) × (r ≡ used_in (x, leaves q x book)) × (set book k r ≡ leaves q x book)) (sym a)
+      (rw e (refl, sym (get_or-set_same book k (becomes q (record_at book k)) blank l), refl))
 
-  left_there : (a : Answer ℕ) → used_place (length book) a < length book
-      → Left a (becomes q (record_at book (used_place (length book) a))) (set book (used_place (length book) a) (becomes q (record_at book (used_place (length book) a))))
-  left_there (accepted k) l = (sym (get_or-set_same book k (becomes q (record_at book k)) blank l), refl)
-  left_there (refused r) l = absurd (omega (arith, l))
+-- in a book that is not too long: what the call is refused already, else by the task
+pub answer_refused : (q : Ask) (book : List Reservation) → length book ≤ 256 → (e : Refusal) → q ≡ Err e → answer_to q book ≡ refused e
+unfolding answer_to
+answer_refused q book l e w = rw (w, le-leb (length book) 256 l) refl
 
-  left_nowhere : (a : Answer ℕ) → length book ≤ used_place (length book) a → Left a blank book
-  left_nowhere (accepted k) l =
-      let e : book ≡ set book k (becomes q (record_at book k)) = sym (set_out book k (becomes q (record_at book k)) l) in
-      (sym (ap (λ (z : List Reservation). record_at z k) (sym e) ∙ get_or-eq_default book blank l), e)
-  left_nowhere (refused r) l = (refl, refl)
+pub answer_asked : (q : Ask) (book : List Reservation) → length book ≤ 256 → (t : Task) → q ≡ Ok t → {x : Answer ℕ} → x ≡ asked t book → answer_to q book ≡ x
+unfolding answer_to
+answer_asked q book l t w e = rw (w, le-leb (length book) 256 l) (sym e)
 
-  module _ (d : Booked) (e : booked d ≡ answer_to q book) (at : ℕ) (f : at ≡ used_place (length book) (booked d)) where
-    place_is : at ≡ used_place (length book) (answer_to q book)
-    place_is = f ∙ ap (used_place (length book)) e
+-- the place that is answered is inside the book
+answered_inside : (q : Ask) (book : List Reservation) (k : ℕ) → answer_to q book ≡ accepted k → k < length book
+unfolding answer_to carried
+answered_inside (Ok (Add a)) book k e = (added_free (accepted a) book k e).1.inside
+answered_inside (Ok (Release flight)) book k e = (released_flies flight book k e).live.inside
+answered_inside (Err r) book k e = clash (let f : ◌≡◌ {A = Answer ℕ} (refused r) (accepted k) = (unless_accepted (leb (length book) 256) (refusal 19 0) (refused r) k e).1 in cc)
 
-    pub carried_there : at < length book → (r : Reservation) → r ≡ becomes q (record_at book at) → Carried d r (set book at r)
-    unfolding carried
-    carried_there l r g =
-        let there = left_there (answer_to q book) (subst (λ (k : ℕ). k < length book) place_is l) in (
-          e,
-          g ∙ ap (λ (k : ℕ). becomes q (record_at book k)) place_is ∙ there.0,
-          (λ i. set book (place_is i) ((g ∙ ap (λ (k : ℕ). becomes q (record_at book k)) place_is) i)) ∙ there.1,
-        )
-
-    pub carried_nowhere : length book ≤ at → (r : Reservation) → r ≡ blank → Carried d r book
-    unfolding carried
-    carried_nowhere l r g =
-        let there = left_nowhere (answer_to q book) (subst (λ (k : ℕ). length book ≤ k) place_is l) in
-        (e, g ∙ there.0, there.1)
+pub asked_inside : (t : Task) (book : List Reservation) (k : ℕ) → length book ≤ 256 → asked t book ≡ accepted k → k < length book
+asked_inside t book k l e = answered_inside (Ok t) book k (answer_asked (Ok t) book l t refl (sym e))

@@ -25,37 +25,13 @@ use Rattle.grid.proofs.Ranges.{space_in_ranges}
 use Rattle.reservations.specs.declared.Reservation.{Reservation}
 use Rattle.reservations.specs.Naming.{Conflict}
 use Rattle.reservations.proofs.Exactly.{conflict_turned}
-use Rattle.book.specs.declared.Ask.{Ask}
-use Rattle.book.specs.Asking.{blank, column, reserved, plane_record, ground_record, space_record, to_add, to_release}
+use Rattle.book.specs.Asking.{Ask, blank, column, reserved, plane_record, ground_record, space_record, to_add, to_release}
 use Rattle.book.specs.Book.{record_at, leaves, carried}
 use Rattle.book.specs.Safety.{LiveAt, Call, add_plane, add_ground, add_space, release, ask_of, after}
-use Rattle.book.specs.Reasons.{FliesAt, FreeAt, WhyAdd, add_too_long, no_record, already, conflict, full, added, WhyRelease, release_too_long, not_live, released}
+use Rattle.book.specs.Reasons.{WhyAdd, add_too_long, no_record, already, conflict, full, added}
 use Rattle.book.specs.Holding.{NotReleased, Crossing, KeptOut, flight_live, in_conflict}
-use Rattle.book.proofs.Reasons.{added_exactly_when, released_exactly_when}
+use Rattle.book.proofs.Reasons.{added_exactly_when, added_free, released_flies}
 use Rattle.book.proofs.Theorems.{adding_stores}
-
--- ---- the record that a call uses
-
--- adding uses one that is not live
-added_free : (made : Answer Reservation) (book : List Reservation) (j : ℕ) → (carried (to_add made) book).0 ≡ accepted j → (length book ≤ 256) × FreeAt book j
-added_free made book j e = go (accepted j) ((added_exactly_when made book (accepted j)).0 e) refl
-  where
-    go : (x : Answer ℕ) → WhyAdd made book x → x ≡ accepted j → (length book ≤ 256) × FreeAt book j
-    go x (add_too_long l) f = clash (cc)
-    go x (no_record s r g) f = clash (cc)
-    go x (already b y i w) f = clash (cc)
-    go x (conflict b y m i w) f = clash (cc)
-    go x (full b y m w o) f = clash (cc)
-    go x (added b y m w i o) f = (y.short, subst (FreeAt book) (accepted_inj f) o.holds)
-
--- releasing uses one of the flight
-released_flies : (flight : ℕ) (book : List Reservation) (j : ℕ) → (carried (to_release flight) book).0 ≡ accepted j → FliesAt flight book j
-released_flies flight book j e = go (accepted j) ((released_exactly_when flight book (accepted j)).0 e) refl
-  where
-    go : (x : Answer ℕ) → WhyRelease flight book x → x ≡ accepted j → FliesAt flight book j
-    go x (release_too_long l) f = clash (cc)
-    go x (not_live s m) f = clash (cc)
-    go x (released s i w) f = subst (FliesAt flight book) (accepted_inj f) w.holds
 
 -- ---- a live record that stays where it is
 

@@ -1,7 +1,7 @@
 pub mod Ways
-pub mod Places
-pub mod Scanning
 pub mod Carrying
+pub mod Places
+pub mod Looking
 pub mod Tells
 pub mod Reasons
 pub mod Safe

@@ -2,67 +2,83 @@
 -- Assumes nothing.
 use mathlib.Core.Path.{◌≡◌, refl, sym, ◌∙◌, ap}
 use mathlib.Core.Bool.{Bool, true, false, cond, false≢true}
-use Prim.Native.Nat.{ℕ, zero, suc, ◌+◌, ◌-◌, ◌<◌, ◌≤◌}
-use native.Mathlib.Nat.{not-suc-le-zero, le_of_suc-le-suc}
+use Prim.Native.Nat.{ℕ, ◌+◌, ◌-◌, ◌<◌, ◌≤◌}
 use native.Mathlib.Omega.{arith}
-use mathlib.Core.List.{List, [], ◌∷◌}
-use lib.Dec.{ltb}
-use lib.ListN.{length}
-use borrow.Author.Tests.{ltb-true, ltb-false}
+use mathlib.Core.List.{List, [], ◌∷◌, ◌++◌}
+use lib.Dec.{ltb, eqb}
+use lib.ListN.{length, take, drop}
+use borrow.Author.Tests.{ltb-true, ltb-false, lt-ltb, le-ltb, eq-eqb, ne_eqb}
+use Rattle.std.specs.Prelude.{Option, Some, None, position}
+use Rattle.std.specs.Option.{option_or}
+use Rattle.std.specs.List.{position_or_len}
+use Rattle.std.proofs.lemmas.List.Quantifiers.{position-Some}
+use Rattle.std.proofs.lemmas.List.Sums.{position_or_len_is, prefix_len_passes, prefix_len-le-length}
+use Rattle.std.proofs.lemmas.List.Folds.{position_or_len_push}
+use Rattle.std.proofs.lemmas.List.{take_more, take_all, length-take, length-drop, length-append}
+use Rattle.std.proofs.lemmas.Bool.{not-true}
 use Rattle.reservations.specs.declared.Reservation.{Reservation}
-use Rattle.book.specs.Book.{record_at, first_with_from, first_with}
+use Rattle.book.specs.Asking.{blank}
+use Rattle.book.specs.Book.{record_at, first_with}
 
-module _ (p : Reservation → Bool) where
-  pub first_from_law : (i : ℕ) (rs : List Reservation) → i ≤ first_with_from p i rs
-  first_from_law i [] = omega arith
-  first_from_law i (r ∷ rs) = go (p r) (first_from_law (i + 1) rs)
+pushed : (n m : ℕ) (q : Bool) → n ≤ m → cond (ltb (cond (eqb n m) (m + cond q 0 1) n) (m + 1)) (Some (cond (eqb n m) (m + cond q 0 1) n)) None ≡ option_or (cond (ltb n m) (Some n) None) (cond q (Some m) None)
+pushed n m q l = go (ltb n m) refl q
+  where
+    go : (b : Bool) → ltb n m ≡ b → (q : Bool) → cond (ltb (cond (eqb n m) (m + cond q 0 1) n) (m + 1)) (Some (cond (eqb n m) (m + cond q 0 1) n)) None ≡ option_or (cond (ltb n m) (Some n) None) (cond q (Some m) None)
+    go true e q = let h : n < m = ltb-true _ _ e in rw (ne_eqb n m (λ z. omega arith), lt-ltb n m h, lt-ltb n (m + 1) (omega arith)) refl
+    go false e true = let h : m ≤ n = ltb-false _ _ e in rw (eq-eqb n m (omega arith), le-ltb n m h, lt-ltb (m + 0) (m + 1) (omega arith)) (ap Some (omega arith))
+    go false e false = let h : m ≤ n = ltb-false _ _ e in rw (eq-eqb n m (omega arith), le-ltb n m h, le-ltb (m + 1) (m + 1) (omega arith)) refl
+
+push_first : (p : Reservation → Bool) (xs : List Reservation) (r : Reservation) → position p (xs ++ r ∷ []) ≡ option_or (position p xs) (cond (p r) (Some (length xs)) None)
+push_first p xs r =
+    let e : position_or_len p (xs ++ r ∷ []) ≡ cond (eqb (position_or_len p xs) (length xs)) (length xs + cond (p r) 0 1) (position_or_len p xs) = position_or_len_push p xs r in
+    let f : length (xs ++ r ∷ []) ≡ length xs + 1 = length-append xs (r ∷ []) in
+    (λ j. cond (ltb (e j) (f j)) (Some (e j)) None) ∙ pushed (position_or_len p xs) (length xs) (p r) (prefix_len-le-length _ xs)
+
+pub or_none : (o : Option ℕ) → o ≡ option_or o None
+or_none None = refl
+or_none (Some k) = refl
+
+-- the part of a book from a place on
+pub rest_is : (book : List Reservation) (i : ℕ) → drop i book ≡ take (length book - i) (drop i book)
+rest_is book i = sym (take_all (length book - i) (drop i book) (omega (arith, length-drop i book)))
+
+module _ (p : Reservation → Bool) (book : List Reservation) where
+  pub first_holds : first_with p book < length book → p (record_at book (first_with p book)) ≡ true
+  first_holds l = (position-Some p book (first_with p book) blank (rw (lt-ltb (first_with p book) (length book) l) refl)).1
+
+  pub first_before : (j : ℕ) → j < first_with p book → p (record_at book j) ≡ false
+  first_before j l = not-true _ (prefix_len_passes _ book j blank l)
+
+  -- where some record passes, the first place is inside and not past it
+  pub first_at_most : (k : ℕ) → p (record_at book k) ≡ true → first_with p book ≤ k
+  first_at_most k t = go (ltb k (first_with p book)) refl
     where
-      go : (b : Bool) → i + 1 ≤ first_with_from p (i + 1) rs → i ≤ cond b i (first_with_from p (i + 1) rs)
-      go true h = omega arith
-      go false h = omega arith
+      go : (b : Bool) → ltb k (first_with p book) ≡ b → first_with p book ≤ k
+      go true e = absurd (false≢true (sym (first_before k (ltb-true _ _ e)) ∙ t))
+      go false e = ltb-false _ _ e
 
-  -- the first place from i on: if it is inside, its record passes the test; and none before it does
-  abbrev FirstLaws : ℕ → ℕ → List Reservation → Type 0
-  FirstLaws i f rs = (f < i + length rs → p (record_at rs (f - i)) ≡ true) × ((j : ℕ) → i + j < f → j < length rs → p (record_at rs j) ≡ false)
+  -- where none passes, the first place is past the end
+  pub first_past : ((k : ℕ) → k < length book → p (record_at book k) ≡ false) → first_with p book ≡ length book
+  first_past none = position_or_len_is p book (length book) blank (omega arith) none (λ l. absurd (omega (arith, l)))
 
-  first_laws : (i : ℕ) (rs : List Reservation) → FirstLaws i (first_with_from p i rs) rs
-  first_laws i [] = (λ l. absurd (omega (arith, l)), λ j l k. absurd (not-suc-le-zero k))
-  first_laws i (r ∷ rs) = go (p r) refl (first_laws (i + 1) rs) (first_from_law (i + 1) rs)
+  -- a record that passes, and none before it
+  pub first_there : (k : ℕ) → k < length book → p (record_at book k) ≡ true → ((j : ℕ) → j < k → p (record_at book j) ≡ false) → first_with p book ≡ k
+  first_there k l t none = position_or_len_is p book k blank (omega arith) none (λ h. t)
+
+  -- none passes where there is no first place
+  pub none_passes : position p book ≡ None → (k : ℕ) → k < length book → p (record_at book k) ≡ false
+  none_passes e k l = go (ltb (first_with p book) (length book)) refl
     where
-      go : (b : Bool) → p r ≡ b → FirstLaws (i + 1) (first_with_from p (i + 1) rs) rs → i + 1 ≤ first_with_from p (i + 1) rs
-          → FirstLaws i (cond b i (first_with_from p (i + 1) rs)) (r ∷ rs)
-      go true e h g = (λ l. ap (λ (m : ℕ). p (record_at (r ∷ rs) m)) (let z : i - i ≡ 0 = omega arith in z) ∙ e, λ j l k. absurd (omega (arith, l)))
-      go false e h g = (hit, before)
-        where
-          hit : first_with_from p (i + 1) rs < i + length (r ∷ rs) → p (record_at (r ∷ rs) (first_with_from p (i + 1) rs - i)) ≡ true
-          hit l =
-              let w : first_with_from p (i + 1) rs - i ≡ suc (first_with_from p (i + 1) rs - (i + 1)) = omega arith in
-              ap (λ (m : ℕ). p (record_at (r ∷ rs) m)) w ∙ h.0 (omega (arith, l))
+      go : (b : Bool) → ltb (first_with p book) (length book) ≡ b → p (record_at book k) ≡ false
+      go true t = absurd (let f : position p book ≡ Some (first_with p book) = rw t refl in let g : Some (first_with p book) ≡ None = sym f ∙ e in cc)
+      go false t = let h : length book ≤ first_with p book = ltb-false _ _ t in first_before k (omega arith)
 
-          before : (j : ℕ) → i + j < first_with_from p (i + 1) rs → j < length (r ∷ rs) → p (record_at (r ∷ rs) j) ≡ false
-          before zero l k = e
-          before (suc m) l k = h.1 m (omega (arith, l)) (le_of_suc-le-suc k)
+  -- the first place among one record more
+  pub first_more : (i : ℕ) → i < length book → position p (take (i + 1) book) ≡ option_or (position p (take i book)) (cond (p (record_at book i)) (Some i) None)
+  first_more i l =
+      let n : length (take i book) ≡ i = omega (arith, length-take i book) in
+      ap (position p) (take_more book i blank l) ∙ push_first p (take i book) (record_at book i) ∙ ap (λ (k : ℕ). option_or (position p (take i book)) (cond (p (record_at book i)) (Some k) None)) n
 
-  module _ (book : List Reservation) where
-    pub first_holds : first_with p book < length book → p (record_at book (first_with p book)) ≡ true
-    first_holds l =
-        ap (λ (m : ℕ). p (record_at book m)) (let z : first_with p book ≡ first_with p book - 0 = omega arith in z) ∙ (first_laws 0 book).0 (omega arith)
-
-    pub first_before : (j : ℕ) → j < first_with p book → j < length book → p (record_at book j) ≡ false
-    first_before j l k = (first_laws 0 book).1 j (omega arith) k
-
-    -- where some record passes, the first place is inside and not past it
-    pub first_at_most : (k : ℕ) → k < length book → p (record_at book k) ≡ true → first_with p book ≤ k
-    first_at_most k l t = go (ltb k (first_with p book)) refl
-      where
-        go : (b : Bool) → ltb k (first_with p book) ≡ b → first_with p book ≤ k
-        go true e = absurd (false≢true (sym (first_before k (ltb-true _ _ e) l) ∙ t))
-        go false e = ltb-false _ _ e
-
-    -- where none passes, the first place is past the end
-    pub first_past : ((k : ℕ) → k < length book → p (record_at book k) ≡ true → ⊥) → length book ≤ first_with p book
-    first_past none = go (ltb (first_with p book) (length book)) refl
-      where
-        go : (b : Bool) → ltb (first_with p book) (length book) ≡ b → length book ≤ first_with p book
-        go true e = absurd (none (first_with p book) (ltb-true _ _ e) (first_holds (ltb-true _ _ e)))
-        go false e = ltb-false _ _ e
+  -- the record at the first place passes
+  pub some_passes : (k : ℕ) → position p book ≡ Some k → (k < length book) × (p (record_at book k) ≡ true)
+  some_passes k e = let s = position-Some p book k blank e in (s.0, s.1)

@@ -10,11 +10,13 @@ use lib.Dec.{ltb, leb}
 use lib.ListN.{length}
 use borrow.Author.Tests.{ltb-true, ltb-false, leb-true, leb-false, lt-ltb, le-ltb, le-leb, lt-leb}
 use Rattle.grid.specs.Answers.{Answer, accepted, refused, refusal, unless}
+use Rattle.grid.proofs.Answers.{accepted_inj}
+use Rattle.grid.proofs.Cut.{clash}
 use Rattle.reservations.specs.declared.Reservation.{Reservation}
 use Rattle.book.specs.declared.Task.TheVariants.{Add}
 use Rattle.book.specs.Asking.{to_add, to_release}
-use Rattle.book.specs.Book.{free, flies, conflicting, first_with, add_at, release_at, asked, answer_to, carried}
-use Rattle.book.specs.Reasons.{FliesAt, ConflictAt, Nowhere, First, Ready, WhyAdd, add_too_long, no_record, already, conflict, full, added, WhyRelease, release_too_long, not_live, released}
+use Rattle.book.specs.Book.{record_at, free, flies, conflicting, first_with, add_at, release_at, asked, answer_to, carried}
+use Rattle.book.specs.Reasons.{FliesAt, ConflictAt, FreeAt, Nowhere, First, Ready, WhyAdd, add_too_long, no_record, already, conflict, full, added, WhyRelease, release_too_long, not_live, released}
 use Rattle.book.proofs.Ways.{answer_long}
 use Rattle.book.proofs.Places.{first_holds, first_before, first_at_most, first_past}
 use Rattle.book.proofs.Tells.{Tells, flies_tells, conflict_tells, free_tells}
@@ -26,18 +28,18 @@ module _ {p : Reservation → Bool} {book : List Reservation} {P : ℕ → Type 
   first_is l =
       record {
         holds = t.says (first_with p book) l (first_holds p book l);
-        before = λ j h f. false≢true (sym (first_before p book j h (t.inside j f)) ∙ t.passes j f);
+        before = λ j h f. false≢true (sym (first_before p book j h) ∙ t.passes j f);
       }
 
   pub nowhere_is : length book ≤ first_with p book → Nowhere P
-  nowhere_is l k f = let h : first_with p book ≤ k = first_at_most p book k (t.inside k f) (t.passes k f) in let i : k < length book = t.inside k f in absurd (omega (arith, l))
+  nowhere_is l k f = let h : first_with p book ≤ k = first_at_most p book k (t.passes k f) in let i : k < length book = t.inside k f in absurd (omega (arith, l))
 
   pub is_inside : (k : ℕ) → P k → first_with p book < length book
-  is_inside k f = let h : first_with p book ≤ k = first_at_most p book k (t.inside k f) (t.passes k f) in let i : k < length book = t.inside k f in omega arith
+  is_inside k f = let h : first_with p book ≤ k = first_at_most p book k (t.passes k f) in let i : k < length book = t.inside k f in omega arith
 
   pub is_first : (k : ℕ) → First P k → first_with p book ≡ k
   is_first k f =
-      let h : first_with p book ≤ k = first_at_most p book k (t.inside k f.holds) (t.passes k f.holds) in
+      let h : first_with p book ≤ k = first_at_most p book k (t.passes k f.holds) in
       let l : first_with p book < length book = is_inside k f.holds in
       go (ltb (first_with p book) k) refl h l
     where
@@ -46,7 +48,11 @@ module _ {p : Reservation → Bool} {book : List Reservation} {P : ℕ → Type 
       go false e h l = let g : k ≤ first_with p book = ltb-false _ _ e in omega arith
 
   pub is_nowhere : Nowhere P → length book ≤ first_with p book
-  is_nowhere none = first_past p book (λ k l e. none k (t.says k l e))
+  is_nowhere none = let h : first_with p book ≡ length book = first_past p book (λ k l. go k l (p (record_at book k)) refl) in omega arith
+    where
+      go : (k : ℕ) → k < length book → (b : Bool) → p (record_at book k) ≡ b → p (record_at book k) ≡ false
+      go k l true e = absurd (none k (t.says k l e))
+      go k l false e = e
 
 -- ---- adding
 
@@ -105,7 +111,7 @@ module _ (made : Answer Reservation) (book : List Reservation) where
   unfolding answer_to
   why_add (accepted a) = go (leb (length book) 256) refl
     where
-      go : (x : Bool) → leb (length book) 256 ≡ x → WhyAdd (accepted a) book (unless x (refusal 19 0) (asked Add a book))
+      go : (x : Bool) → leb (length book) 256 ≡ x → WhyAdd (accepted a) book (unless x (refusal 19 0) (asked (Add a) book))
       go true e = why_at a book (leb-true _ _ e)
       go false e = add_too_long (leb-false _ _ e)
   why_add (refused r) = go (leb (length book) 256) refl
@@ -161,3 +167,26 @@ module _ (flight : ℕ) (book : List Reservation) where
   pub released_exactly_when : (x : Answer ℕ) → ((carried (to_release flight) book).0 ≡ x) ↔ WhyRelease flight book x
   unfolding carried
   released_exactly_when x = (λ e. subst (WhyRelease flight book) e why_release, so_release x)
+
+-- ---- the record that a call uses
+
+-- adding uses one that is not live
+pub added_free : (made : Answer Reservation) (book : List Reservation) (j : ℕ) → (carried (to_add made) book).0 ≡ accepted j → (length book ≤ 256) × FreeAt book j
+added_free made book j e = go (accepted j) ((added_exactly_when made book (accepted j)).0 e) refl
+  where
+    go : (x : Answer ℕ) → WhyAdd made book x → x ≡ accepted j → (length book ≤ 256) × FreeAt book j
+    go x (add_too_long l) f = clash (cc)
+    go x (no_record s r g) f = clash (cc)
+    go x (already b y i w) f = clash (cc)
+    go x (conflict b y m i w) f = clash (cc)
+    go x (full b y m w o) f = clash (cc)
+    go x (added b y m w i o) f = (y.short, subst (FreeAt book) (accepted_inj f) o.holds)
+
+-- releasing uses one of the flight
+pub released_flies : (flight : ℕ) (book : List Reservation) (j : ℕ) → (carried (to_release flight) book).0 ≡ accepted j → FliesAt flight book j
+released_flies flight book j e = go (accepted j) ((released_exactly_when flight book (accepted j)).0 e) refl
+  where
+    go : (x : Answer ℕ) → WhyRelease flight book x → x ≡ accepted j → FliesAt flight book j
+    go x (release_too_long l) f = clash (cc)
+    go x (not_live s m) f = clash (cc)
+    go x (released s i w) f = subst (FliesAt flight book) (accepted_inj f) w.holds

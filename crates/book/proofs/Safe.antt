@@ -15,10 +15,9 @@ use Rattle.grid.proofs.Answers.{accepted_inj}
 use Rattle.reservations.specs.declared.Reservation.{Reservation}
 use Rattle.reservations.specs.Naming.{Conflict}
 use Rattle.reservations.proofs.Exactly.{conflict_turned}
-use Rattle.book.specs.declared.Ask.{Ask}
-use Rattle.book.specs.declared.Task.{Task}
-use Rattle.book.specs.declared.Task.TheVariants.{Add, Release, Refused}
-use Rattle.book.specs.Asking.{blank}
+use Rattle.std.specs.Prelude.{Ok, Err}
+use Rattle.book.specs.declared.Task.TheVariants.{Add, Release}
+use Rattle.book.specs.Asking.{Ask, blank}
 use Rattle.book.specs.Book.{off, record_at, answer_to, leaves, carried}
 use Rattle.book.specs.Safety.{LiveAt, Safe, NothingLive, Call, ask_of, after}
 use Rattle.book.specs.Reasons.{WhyAdd, add_too_long, no_record, already, conflict, full, added, WhyRelease, release_too_long, not_live, released}
@@ -55,13 +54,9 @@ module _ (book : List Reservation) (safe : Safe book) (k : ℕ) (r : Reservation
 
 -- ---- one call
 
--- what is asked, by its two parts
-abbrev asking : Task → Reservation → Ask
-asking t a = record { task = t; sought = a }
-
 module _ (book : List Reservation) (safe : Safe book) where
   -- a record that adding uses is apart from all live ones
-  add_safe : (made : Answer Reservation) (a : Reservation) → made ≡ accepted a → (x : Answer ℕ) → WhyAdd made book x → Safe (leaves (asking Add a) x book)
+  add_safe : (made : Answer Reservation) (a : Reservation) → made ≡ accepted a → (x : Answer ℕ) → WhyAdd made book x → Safe (leaves (Ok (Add a)) x book)
   add_safe made a e x (add_too_long l) = safe
   add_safe made a e x (no_record s r f) = safe
   add_safe made a e x (already b y k w) = safe
@@ -72,26 +67,22 @@ module _ (book : List Reservation) (safe : Safe book) where
       stored book safe k a (λ j ne l u v c. none j (record { live = record { inside = l; alive = v }; conflict = subst (λ (r : Reservation). Conflict r (record_at book j)) (sym same) c })) o.holds.inside
 
   -- a record that is turned off is not live
-  release_safe : (a : Reservation) (x : Answer ℕ) → WhyRelease a.flight book x → Safe (leaves (asking Release a) x book)
-  release_safe a x (release_too_long l) = safe
-  release_safe a x (not_live s m) = safe
-  release_safe a x (released s k w) =
+  release_safe : (flight : ℕ) (x : Answer ℕ) → WhyRelease flight book x → Safe (leaves (Ok (Release flight)) x book)
+  release_safe flight x (release_too_long l) = safe
+  release_safe flight x (not_live s m) = safe
+  release_safe flight x (released s k w) =
       stored book safe k (off (record_at book k)) (λ j ne l x y c. not-suc-le-zero x) w.holds.live.inside
-
-  carries_safe : (t : Task) (a : Reservation) → Safe (leaves (asking t a) (answer_to (asking t a) book) book)
-  unfolding answer_to carried
-  carries_safe Add a = add_safe (accepted a) a refl (answer_to (asking Add a) book) ((added_exactly_when (accepted a) book _).0 refl)
-  carries_safe Release a = release_safe a (answer_to (asking Release a) book) ((released_exactly_when a.flight book _).0 refl)
-  carries_safe (Refused r) a = go (leb (length book) 256)
-    where
-      go : (b : Bool) → Safe (leaves (asking (Refused r) a) (unless b (refusal 19 0) (refused r)) book)
-      go true = safe
-      go false = safe
 
   -- one step, from any book without live conflicts
   pub carried_safe : (q : Ask) → Safe (carried q book).1
-  unfolding carried
-  carried_safe q = carries_safe q.task q.sought
+  unfolding answer_to carried
+  carried_safe (Ok (Add a)) = add_safe (accepted a) a refl (answer_to (Ok (Add a)) book) ((added_exactly_when (accepted a) book _).0 refl)
+  carried_safe (Ok (Release flight)) = release_safe flight (answer_to (Ok (Release flight)) book) ((released_exactly_when flight book _).0 refl)
+  carried_safe (Err r) = go (leb (length book) 256)
+    where
+      go : (b : Bool) → Safe (leaves (Err r) (unless b (refusal 19 0) (refused r)) book)
+      go true = safe
+      go false = safe
 
 -- ---- any sequence
 

@@ -23,8 +23,7 @@ use Rattle.grid.specs.Space.{space_cell_of}
 use Rattle.grid.proofs.Answers.{accepted_inj, unless_accepted, then_from}
 use Rattle.grid.proofs.Cut.{clash}
 use Rattle.reservations.specs.declared.Reservation.{Reservation}
-use Rattle.book.specs.declared.Ask.{Ask}
-use Rattle.book.specs.Asking.{over, column, ground_column, reserved, plane_record, ground_record, space_record, to_add, to_release}
+use Rattle.book.specs.Asking.{Ask, over, column, ground_column, reserved, plane_record, ground_record, space_record, to_add, to_release}
 use Rattle.book.specs.Meaning.{Reserves, InColumn, InPlane, InGround, WhyNone, no_code, no_minutes, TurnedOff}
 use Rattle.book.specs.Book.{off, record_at, leaves, carried}
 

@@ -1,29 +1,30 @@
 -- What a call asks of the book: the record that it would add, with every refusal decided that the book has no part in; or the flight to release.
 -- Assumes nothing.
-use Rattle.std.specs.Prelude.{List, ℕ, ltb, ℤ, pos}
+use Rattle.std.specs.Prelude.{List, ℕ, ltb, ℤ, pos, Result, Ok, Err}
 use Rattle.grid.specs.declared.Cell.{Cell}
 use Rattle.grid.specs.declared.SpaceCell.{SpaceCell}
+use Rattle.grid.specs.declared.Refusal.{Refusal}
 use Rattle.grid.specs.Answers.{Answer, accepted, refused, refusal, unless, and_then}
 use Rattle.grid.specs.Layers.{ours, product, all, floor_of, thickness_of}
 use Rattle.grid.specs.Plane.{cell_of}
 use Rattle.grid.specs.Space.{space_cell_of}
 use Rattle.reservations.specs.declared.Reservation.{Reservation}
-use Rattle.book.specs.declared.Ask.{Ask}
-use Rattle.book.specs.declared.Task.TheVariants.{Add, Release, Refused}
+use Rattle.book.specs.declared.Task.{Task}
+use Rattle.book.specs.declared.Task.TheVariants.{Add, Release}
 
--- a record that is not live and names nothing, of a flight
-abbrev pub nothing_of : ℕ → Reservation
-nothing_of flight = record {
+-- what a call asks of the book: the task, or the refusal that it has already
+abbrev pub Ask : Type 0
+Ask = Result Task Refusal
+
+-- a record of flight 0 that is not live and names nothing: what stands where there is no record
+abbrev pub blank : Reservation
+blank = record {
   live = 0;
-  flight = flight;
+  flight = 0;
   space = record { cell = record { level = 0; west = pos 0; south = pos 0; width = 0; height = 0 }; floor = pos 0; thickness = 0 };
   start = 0;
   end = 0;
 }
-
--- the same of flight 0: what stands where there is no record
-abbrev pub blank : Reservation
-blank = nothing_of 0
 
 -- a cell over so many layers from a floor on
 abbrev pub over : ℤ → ℕ → Cell → SpaceCell
@@ -56,9 +57,9 @@ space_record code flight start end = and_then (space_cell_of ours code) (λ s. r
 
 -- a record to add; or nothing, being refused already
 abbrev pub to_add : Answer Reservation → Ask
-to_add (accepted a) = record { task = Add; sought = a }
-to_add (refused r) = record { task = Refused r; sought = blank }
+to_add (accepted a) = Ok (Add a)
+to_add (refused r) = Err r
 
 -- a flight to release
 abbrev pub to_release : ℕ → Ask
-to_release flight = record { task = Release; sought = nothing_of flight }
+to_release flight = Ok (Release flight)

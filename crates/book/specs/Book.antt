@@ -1,14 +1,15 @@
 -- The book: what each call answers, and the book afterwards. Every definition is total: any list of records is a book.
 -- Assumes nothing.
-use Rattle.std.specs.Prelude.{Bool, ◌&&◌, not, cond, List, [], ◌∷◌, ℕ, ◌+◌, ltb, leb, eqb, length, get_or, set}
-use Rattle.grid.specs.Answers.{Answer, accepted, refused, refusal, unless}
+use Rattle.std.specs.Prelude.{Bool, ◌&&◌, not, List, ℕ, ltb, leb, eqb, length, get_or, set, Result, Ok, Err}
+use Rattle.grid.specs.declared.Refusal.{Refusal}
+use Rattle.grid.specs.Answers.{Answer, accepted, refused, refusal, unless, and_then, answer_of}
+use Rattle.std.specs.List.{position_or_len}
 use Rattle.reservations.specs.declared.Reservation.{Reservation}
 use Rattle.reservations.specs.Meeting.{conflict_test}
-use Rattle.book.specs.declared.Ask.{Ask}
+use Rattle.book.specs.declared.Done.{Done}
 use Rattle.book.specs.declared.Task.{Task}
-use Rattle.book.specs.declared.Task.TheVariants.{Add, Release, Refused}
-use Rattle.book.specs.declared.Booked.{Booked}
-use Rattle.book.specs.Asking.{blank}
+use Rattle.book.specs.declared.Task.TheVariants.{Add, Release}
+use Rattle.book.specs.Asking.{Ask, blank}
 
 -- ---- one record
 
@@ -38,14 +39,9 @@ off r = record { live = 0; flight = r.flight; space = r.space; start = r.start; 
 abbrev pub record_at : List Reservation → ℕ → Reservation
 record_at book k = get_or book k blank
 
--- the first place from i on whose record passes the test; the place past the end where none does
-abbrev pub first_with_from : (Reservation → Bool) → ℕ → List Reservation → ℕ
-first_with_from p i [] = i
-first_with_from p i (r ∷ rs) = cond (p r) i (first_with_from p (i + 1) rs)
-
 -- the first place of the book whose record passes the test, counted from 0; the count of records where none does
 abbrev pub first_with : (Reservation → Bool) → List Reservation → ℕ
-first_with p book = first_with_from p 0 book
+first_with p book = position_or_len p book
 
 -- ---- what is answered
 
@@ -59,28 +55,27 @@ add_at n same conflict free_place =
 unfoldable pub release_at : ℕ → ℕ → Answer ℕ
 release_at n same = unless (ltb same n) (refusal 18 0) (accepted same)
 
--- the place of the record that is used, or a refusal, in a book that is not too long: by the task, and the record that is sought
-abbrev pub asked : Task → Reservation → List Reservation → Answer ℕ
-asked Add a book =
+-- the place of the record that is used, or a refusal, in a book that is not too long: by the task
+abbrev pub asked : Task → List Reservation → Answer ℕ
+asked (Add a) book =
     add_at (length book) (first_with (flies a.flight) book) (first_with (conflicting a) book) (first_with free book)
-asked Release a book = release_at (length book) (first_with (flies a.flight) book)
-asked (Refused r) a book = refused r
+asked (Release flight) book = release_at (length book) (first_with (flies flight) book)
 
--- 19, more than 256 records, before all others
+-- 19, more than 256 records, before all others; then what the call is refused already
 unfoldable pub answer_to : Ask → List Reservation → Answer ℕ
-answer_to q book = unless (leb (length book) 256) (refusal 19 0) (asked q.task q.sought book)
+answer_to q book = unless (leb (length book) 256) (refusal 19 0) (and_then (answer_of q) (λ t. asked t book))
 
 -- ---- the book afterwards
 
--- what the record that is used becomes: the one that was sought, or itself with its live mark off
-abbrev pub becomes_by : Task → Reservation → Reservation → Reservation
-becomes_by Add a r = a
-becomes_by Release a r = off r
-becomes_by (Refused q) a r = r
+-- what the record that is used becomes: the one to add, or itself with its live mark off
+abbrev pub becomes_by : Task → Reservation → Reservation
+becomes_by (Add a) r = a
+becomes_by (Release flight) r = off r
 
 -- the same of what was asked
 abbrev pub becomes : Ask → Reservation → Reservation
-becomes q r = becomes_by q.task q.sought r
+becomes (Ok t) r = becomes_by t r
+becomes (Err e) r = r
 
 -- only the record at the place that is used changes; a refusal changes nothing
 abbrev pub leaves : Ask → Answer ℕ → List Reservation → List Reservation
@@ -96,7 +91,12 @@ abbrev pub used_in : Answer ℕ × List Reservation → Reservation
 used_in (accepted k, book) = record_at book k
 used_in (refused r, book) = blank
 
--- a call's answer in the paper's numbers: the place of the record used or released, or the refusal
-abbrev pub booked : Booked → Answer ℕ
-booked (Booked.At k) = accepted k
-booked (Booked.Refused r) = refused r
+-- what a call hands back, in the paper's numbers: the place of the record used or released, or the refusal
+abbrev pub booked : Result Done Refusal → Answer ℕ
+booked (Ok d) = accepted d.at
+booked (Err r) = refused r
+
+-- and the record that it used, as it is now; a blank one where none was
+abbrev pub used_by : Result Done Refusal → Reservation
+used_by (Ok d) = d.used
+used_by (Err r) = blank

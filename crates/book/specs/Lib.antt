@@ -4,4 +4,3 @@ pub mod Book
 pub mod Safety
 pub mod Reasons
 pub mod Holding
-pub mod inner

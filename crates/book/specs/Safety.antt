@@ -3,8 +3,7 @@
 use Rattle.std.specs.Prelude.{◌≢◌, List, [], ◌∷◌, ℕ, ◌<◌, length}
 use Rattle.reservations.specs.declared.Reservation.{Reservation}
 use Rattle.reservations.specs.Naming.{Conflict}
-use Rattle.book.specs.declared.Ask.{Ask}
-use Rattle.book.specs.Asking.{plane_record, ground_record, space_record, to_add, to_release}
+use Rattle.book.specs.Asking.{Ask, plane_record, ground_record, space_record, to_add, to_release}
 use Rattle.book.specs.Book.{record_at, carried}
 
 -- there is a live record at the place

@@ -1,9 +1,20 @@
 -- What is known of the bytes that a writer has and that a reader has left, one step after another.
 -- Assumes nothing.
-use Rattle.std.specs.Prelude.{◌≡◌, ℕ, List, [], ◌++◌, Option, Some, None, IfSome}
+use Rattle.std.specs.Prelude.{◌≡◌, ℕ, List, [], ◌++◌, Option, Some, None, IfSome, Result, Ok, Err, is_ok, OnOk, OnErr}
 use Rattle.std.specs.Io.KnownBytes.{Appends, Consumes, IsAtEnd}
 use mathlib.Core.Path.{refl, sym}
 use mathlib.Core.List.{append-nil, append_assoc}
+
+-- what is known where a call went well holds where its result is handed on with another error
+pub on_ok : {T E F : Type 0} (P : Type 0) (r : Result T E) (s : Result T F) → is_ok s ≡ is_ok r → OnOk r P → OnOk s P
+on_ok P (Ok x) (Ok y) e p = p
+on_ok P (Err x) (Ok y) e p = cc
+on_ok P r (Err y) e p = tt
+
+-- what is known anyway is known where it went wrong
+pub on_err : {T E : Type 0} (P : Type 0) (r : Result T E) → P → OnErr r P
+on_err P (Ok x) p = tt
+on_err P (Err y) p = p
 
 pub appends_none : (o : Option (List ℕ)) → Appends o o []
 appends_none None = tt

@@ -1,19 +1,16 @@
 -- Remainders by a full turn, and the way from one to another.
 -- Assumes nothing.
-use mathlib.Core.Path.{◌≡◌, refl, ◌∙◌, ap}
+use mathlib.Core.Path.{◌≡◌, refl}
 use mathlib.Core.Bool.{Bool, true, false, cond}
 use Prim.Native.Nat.{ℕ, suc, ◌+◌, ◌-◌, ◌%◌, ◌≤◌, ◌<◌}
 use native.Mathlib.Omega.{arith}
 use lib.Dec.{ltb}
 use lib.IntN.{ℤ, pos, negsuc, ◌+ℤ◌}
-use lib.Signed.{lt_z}
 use mir.Syntax.{w32}
-use mir.Val.{SFits, to_z, of_z}
-use mir.Facts.{to_z-of_z}
+use mir.Val.{SFits}
 use borrow.Author.Tests.{ltb-true, ltb-false}
 use Rattle.grid.specs.Units.{TURN, index}
 use Rattle.grid.specs.Cells.{around}
-use Rattle.grid.proofs.Cut.{clash}
 use Rattle.distances.specs.Distances.{between}
 
 -- ---- remainders
@@ -34,27 +31,6 @@ around_on (negsuc a) n = go (ltb n (suc a)) refl
 pub small_index : (z : ℤ) → SFits w32 z → index z < 2147483648
 small_index (pos n) f = f.sfits
 small_index (negsuc n) f = f.sfits
-
-module _ (z : ℤ) (f : SFits w32 z) {r : ℕ} (e : r ≡ index (to_z w32 (of_z w32 z))) where
-  index_of : r ≡ index z
-  index_of = e ∙ ap index (to_z-of_z f)
-
-  pub below_turn : r ≤ 2654207999
-  below_turn = let i : r ≡ index z = index_of in let h : index z < 2147483648 = small_index z f in omega arith
-
-  pub negative : lt_z (to_z w32 (of_z w32 z)) (pos 0) ≡ true → 2654207999 - r ≡ around z
-  negative t = go z index_of (small_index z f) (rw (to_z-of_z f) at t)
-    where
-      go : (z : ℤ) → r ≡ index z → index z < 2147483648 → lt_z z (pos 0) ≡ true → 2654207999 - r ≡ around z
-      go (pos n) i h t = absurd (let l : n < 0 = ltb-true n 0 t in omega arith)
-      go (negsuc n) i h t = omega arith
-
-  pub positive : lt_z (to_z w32 (of_z w32 z)) (pos 0) ≡ false → r ≡ around z
-  positive t = go z index_of (small_index z f) (rw (to_z-of_z f) at t)
-    where
-      go : (z : ℤ) → r ≡ index z → index z < 2147483648 → lt_z z (pos 0) ≡ false → r ≡ around z
-      go (pos n) i h t = omega arith
-      go (negsuc n) i h t = clash (cc)
 
 pub remainder_below : (z : ℤ) {r : ℕ} → r ≡ around z → r < 2654208000
 remainder_below z e = let h : around z < 2654208000 = around_below z in omega arith

@@ -15,14 +15,14 @@ pub const LAST: u32 = TURN - 1;
 pub fn outward(z: i32) -> u32
     ensures { result ≡ index z }
 {
-    if z < 0 { (-1 - z) as u32 } else { z as u32 }
+    grid::outward(z.into()) as u32
 }
 
 // Its remainder by a full turn.
 pub fn remainder(z: i32) -> u32
     ensures { result ≡ around z }
 {
-    if z < 0 { LAST - outward(z) } else { outward(z) }
+    i64::from(z).rem_euclid(i64::from(TURN)) as u32
 }
 
 // The units from one number to another, eastward or northward.

@@ -1,9 +1,10 @@
 -- What follows from an answer, once its case is known, and what a result says of the tests and results before it; the two numbers of a wrong
 -- character. Assumes nothing.
 use Rattle.std.proofs.Common.{◌≡◌, ℕ, ◌<◌, ◌≤◌, Bool, true, false, cond, sym, refl, ap, ◌∙◌, arith, le-ltb, lt-ltb}
+use Rattle.std.specs.Prelude.{Result, Ok, Err, IsErr, IsErrAnd}
 use Rattle.grid.specs.declared.Refusal.{Refusal}
 use Rattle.grid.specs.Characters.{digit_of, code_character}
-use Rattle.grid.specs.Answers.{Answer, accepted, refused, refusal, unless, and_then, wrong_number, wrong_character}
+use Rattle.grid.specs.Answers.{Answer, accepted, refused, answer_of, refusal, unless, and_then, wrong_number, wrong_character}
 use Rattle.grid.specs.inner.Roads.{at_place}
 use Rattle.grid.proofs.Cut.{clash}
 
@@ -13,6 +14,11 @@ module _ {C D : Type 0} {a : Answer C} (f : C → Answer D) where
 
   pub then_refused : {r : Refusal} → a ≡ refused r → refused r ≡ and_then a f
   then_refused e = sym (ap (λ (x : Answer C). and_then x f) e)
+
+-- what `?` hands on is the refusal that it was given
+pub handed_on : {C : Type 0} {r : Refusal} (a : Result C Refusal) → IsErr a × IsErrAnd a (λ q. q ≡ r) → answer_of a ≡ refused r
+handed_on (Ok c) h = absurd h.1
+handed_on (Err q) h = ap refused h.1
 
 pub accepted_inj : {C : Type 0} {c d : C} → accepted c ≡ accepted d → c ≡ d
 accepted_inj e = cc

@@ -1,37 +1,29 @@
 -- What holds of every writer, by the one definition of laying a text down.
 -- Assumes nothing.
 use Rattle.std.proofs.Common.{◌≡◌, ℕ, ◌+◌, ◌-◌, ◌<◌, ◌≤◌, Bool, true, false, leb, List, ◌++◌, length, take, drop, sym, refl, ap, ◌∙◌, subst, append_assoc, append-nil, zero-add, arith, length-drop, drop_of_length-le, length-take-le, take_all, drop-drop, take_at, drop_at, le-leb, leb-true}
+use Rattle.std.specs.Prelude.{Result, Ok, Err, IsErr, IsErrAnd}
 use lib.Seq.{sets, sets-eq}
 use borrow.Rule.Slice.PartMut.{put_mid}
 use borrow.Author.Tests.{lt-leb}
 use Rattle.grid.specs.declared.Refusal.{Refusal}
-use Rattle.grid.specs.declared.Written.{Written}
-use Rattle.grid.specs.declared.Written.TheVariants as written_as
-use Rattle.grid.specs.declared.PlaneRead.{PlaneRead}
-use Rattle.grid.specs.declared.PlaneRead.TheVariants as read_as
-use Rattle.grid.specs.Answers.{Answer, accepted, refused, plane_read}
-use Rattle.grid.specs.Laying.{no_room, laid_if, laid, LaidDown, written}
+use Rattle.grid.specs.Answers.{Answer, accepted, refused, answer_of}
+use Rattle.grid.specs.Laying.{no_room, laid_if, laid, LaidDown}
+use Rattle.grid.proofs.Answers.{handed_on}
 use Rattle.grid.proofs.Cut.{clash}
 
 -- ---- two results that one contract allows are equal
 
-pub written_one : (a b : Written) → written a ≡ written b → a ≡ b
-written_one (written_as.Bytes m) (written_as.Bytes n) e = cc
-written_one (written_as.Bytes m) (written_as.Refused r) e = clash (cc)
-written_one (written_as.Refused r) (written_as.Bytes n) e = clash (cc)
-written_one (written_as.Refused r) (written_as.Refused q) e = cc
-
-pub plane_read_one : (a b : PlaneRead) → plane_read a ≡ plane_read b → a ≡ b
-plane_read_one (read_as.Found c) (read_as.Found d) e = cc
-plane_read_one (read_as.Found c) (read_as.Refused r) e = clash (cc)
-plane_read_one (read_as.Refused r) (read_as.Found d) e = clash (cc)
-plane_read_one (read_as.Refused r) (read_as.Refused q) e = cc
+pub answer_one : {C : Type 0} (a b : Result C Refusal) → answer_of a ≡ answer_of b → a ≡ b
+answer_one (Ok c) (Ok d) e = cc
+answer_one (Ok c) (Err r) e = clash (cc)
+answer_one (Err r) (Ok d) e = clash (cc)
+answer_one (Err r) (Err q) e = cc
 
 -- a writer's answer and line are determined
-pub laid_one : (t : Answer (List ℕ)) (line : List ℕ) (at : ℕ) (a b : Written) (k l : List ℕ) → (written a, k) ≡ laid t line at → (written b, l) ≡ laid t line at → (a ≡ b) × (k ≡ l)
+pub laid_one : (t : Answer (List ℕ)) (line : List ℕ) (at : ℕ) (a b : Result ℕ Refusal) (k l : List ℕ) → (answer_of a, k) ≡ laid t line at → (answer_of b, l) ≡ laid t line at → (a ≡ b) × (k ≡ l)
 laid_one t line at a b k l e f =
-    let z : ◌≡◌ {A = Answer ℕ × List ℕ} (written a, k) (written b, l) = e ∙ sym f in
-    (written_one a b (ap (λ (x : Answer ℕ × List ℕ). x.0) z), ap (λ (x : Answer ℕ × List ℕ). x.1) z)
+    let z : ◌≡◌ {A = Answer ℕ × List ℕ} (answer_of a, k) (answer_of b, l) = e ∙ sym f in
+    (answer_one a b (ap (λ (x : Answer ℕ × List ℕ). x.0) z), ap (λ (x : Answer ℕ × List ℕ). x.1) z)
 
 -- ---- a refusal changes no byte
 
@@ -69,18 +61,22 @@ accepted_lays w line at n e = go (leb (at + length w) (length line)) refl e
 
 -- ---- the three ways to answer
 
-pub laid_refused : {t : Answer (List ℕ)} {r : Refusal} (line : List ℕ) (at : ℕ) → t ≡ refused r → (written (written_as.Refused r), line) ≡ laid t line at
+pub laid_refused : {t : Answer (List ℕ)} {r : Refusal} (line : List ℕ) (at : ℕ) → t ≡ refused r → (answer_of (Err r), line) ≡ laid t line at
 unfolding laid
 laid_refused line at e = rw e refl
 
-pub laid_no_room : {t : Answer (List ℕ)} {w : List ℕ} (line : List ℕ) (at n : ℕ) → t ≡ accepted w → length w ≡ n → length line < at + n → (written (written_as.Refused no_room), line) ≡ laid t line at
+-- the same, where `?` handed the refusal on
+pub laid_handed : {t : Answer (List ℕ)} {r : Refusal} (a : Result ℕ Refusal) (line : List ℕ) (at : ℕ) → IsErr a × IsErrAnd a (λ q. q ≡ r) → t ≡ refused r → (answer_of a, line) ≡ laid t line at
+laid_handed a line at h e = rw (handed_on a h) (laid_refused line at e)
+
+pub laid_no_room : {t : Answer (List ℕ)} {w : List ℕ} (line : List ℕ) (at n : ℕ) → t ≡ accepted w → length w ≡ n → length line < at + n → (answer_of (Err no_room), line) ≡ laid t line at
 unfolding laid
 laid_no_room line at n e l h = rw (e, l, lt-leb (at + n) (length line) h) refl
 
-pub laid_bytes : {t : Answer (List ℕ)} {w : List ℕ} (line : List ℕ) (at n : ℕ) → t ≡ accepted w → length w ≡ n → at + n ≤ length line → (written (written_as.Bytes n), take at line ++ w ++ drop (at + n) line) ≡ laid t line at
+pub laid_bytes : {t : Answer (List ℕ)} {w : List ℕ} (line : List ℕ) (at n : ℕ) → t ≡ accepted w → length w ≡ n → at + n ≤ length line → (answer_of (Ok n), take at line ++ w ++ drop (at + n) line) ≡ laid t line at
 unfolding laid
 laid_bytes {t} {w} line at n e l h =
-    subst (λ (k : ℕ). (written (written_as.Bytes k), take at line ++ w ++ drop (at + k) line) ≡ laid t line at) l
+    subst (λ (k : ℕ). (answer_of (Ok k), take at line ++ w ++ drop (at + k) line) ≡ laid t line at) l
     (rw (e, le-leb (at + length w) (length line) (omega arith)) refl)
 
 -- ---- the line lent on from a place: what is stored from the start of the part stands in the whole line
@@ -102,25 +98,25 @@ part_stored old at w h =
     (sym (append_assoc (take at old) w (drop (at + length w) old)))
 
 pub laid_lent : {t : Answer (List ℕ)} {w last : List ℕ} (line : List ℕ) (at n : ℕ) → t ≡ accepted w → length w ≡ n → at ≤ length line → n ≤ length line - at
-    → last ≡ sets (take (length line - at) (drop at line)) 0 w → (written (written_as.Bytes n), put_mid at (length line - at) line last) ≡ laid t line at
+    → last ≡ sets (take (length line - at) (drop at line)) 0 w → (answer_of (Ok n), put_mid at (length line - at) line last) ≡ laid t line at
 laid_lent {t} {w} line at n e l ha hn s =
     let f : at + n ≤ length line = omega arith in
     rw (s, part_stored line at w (omega arith), l) (laid_bytes line at n e l f)
 
-pub laid_past : {t : Answer (List ℕ)} {w : List ℕ} (line : List ℕ) (at n : ℕ) → t ≡ accepted w → length w ≡ n → length line < at → (written (written_as.Refused no_room), line) ≡ laid t line at
+pub laid_past : {t : Answer (List ℕ)} {w : List ℕ} (line : List ℕ) (at n : ℕ) → t ≡ accepted w → length w ≡ n → length line < at → (answer_of (Err no_room), line) ≡ laid t line at
 laid_past line at n e l h = laid_no_room line at n e l (omega arith)
 
-pub laid_short : {t : Answer (List ℕ)} {w : List ℕ} (line : List ℕ) (at n : ℕ) → t ≡ accepted w → length w ≡ n → at ≤ length line → length line - at < n → (written (written_as.Refused no_room), line) ≡ laid t line at
+pub laid_short : {t : Answer (List ℕ)} {w : List ℕ} (line : List ℕ) (at n : ℕ) → t ≡ accepted w → length w ≡ n → at ≤ length line → length line - at < n → (answer_of (Err no_room), line) ≡ laid t line at
 laid_short line at n e l h k = laid_no_room line at n e l (omega arith)
 
 -- the same, where the refusal is known by an equation
-pub laid_past_by : {t : Answer (List ℕ)} {w : List ℕ} {r : Refusal} (line : List ℕ) (at n : ℕ) → r ≡ no_room → t ≡ accepted w → length w ≡ n → length line < at → (written (written_as.Refused r), line) ≡ laid t line at
+pub laid_past_by : {t : Answer (List ℕ)} {w : List ℕ} {r : Refusal} (line : List ℕ) (at n : ℕ) → r ≡ no_room → t ≡ accepted w → length w ≡ n → length line < at → (answer_of (Err r), line) ≡ laid t line at
 laid_past_by line at n q e l h = rw q (laid_past line at n e l h)
 
 pub laid_short_by : {t : Answer (List ℕ)} {w : List ℕ} {r : Refusal} (line : List ℕ) (at n : ℕ) → r ≡ no_room → t ≡ accepted w → length w ≡ n → at ≤ length line → length line - at < n
-    → (written (written_as.Refused r), line) ≡ laid t line at
+    → (answer_of (Err r), line) ≡ laid t line at
 laid_short_by line at n q e l h k = rw q (laid_short line at n e l h k)
 
 -- the same, where what is left of the line from the place on is counted: none past its end
-pub laid_narrow_by : {t : Answer (List ℕ)} {w : List ℕ} {r : Refusal} (line : List ℕ) (at n : ℕ) → r ≡ no_room → t ≡ accepted w → length w ≡ n → length line - at < n → (written (written_as.Refused r), line) ≡ laid t line at
+pub laid_narrow_by : {t : Answer (List ℕ)} {w : List ℕ} {r : Refusal} (line : List ℕ) (at n : ℕ) → r ≡ no_room → t ≡ accepted w → length w ≡ n → length line - at < n → (answer_of (Err r), line) ≡ laid t line at
 laid_narrow_by line at n q e l h = rw q (laid_no_room line at n e l (omega arith))

@@ -1,6 +1,6 @@
 -- Where characters stand in a space code, each place held to the table of splits by one computed test; and what laying them there leaves.
 -- Assumes nothing.
-use Rattle.std.proofs.Common.{◌≡◌, ℕ, zero, suc, ◌+◌, ◌-◌, ◌<◌, ◌≤◌, Bool, true, false, eqb, ltb, leb, List, [], ◌∷◌, ◌++◌, map, length, get_or, take, drop, set, sym, refl, ap, ◌∙◌, subst, arith, length-drop, length-set, length-take-le, get_or-drop, drop-cons, get_or-take, ext_get_or, ltb-false, ltb-true, le-ltb, lt-ltb, ne_eqb, eqb-true, le-leb, leb-true}
+use Rattle.std.proofs.Common.{◌≡◌, ℕ, zero, suc, ◌+◌, ◌-◌, ◌<◌, ◌≤◌, Bool, true, false, eqb, ltb, leb, List, [], ◌∷◌, ◌++◌, map, length, get_or, take, drop, set, sym, refl, ap, ◌∙◌, arith, length-drop, length-set, length-take-le, get_or-drop, drop-cons, get_or-take, ext_get_or, ltb-true, le-ltb, lt-ltb, ne_eqb, eqb-true, le-leb, leb-true}
 use lib.ListN.{length-map}
 use lib.Seq.{sets}
 use borrow.Author.Tests.{lt-leb}
@@ -35,40 +35,42 @@ plane_later : (p : ℕ) → p < 20 → first.length ≤ p → {k : ℕ} → k �
 unfolding plane_place
 plane_later p l h e = rw (lt-ltb p 20 l, le-ltb p first.length h, e) refl
 
--- k levels end before the plane character p, no more than nine: counting those that are left, all are counted
+-- k levels end before the plane character p: counting those that are left, all are counted
 pub record Counting (p k : ℕ) : Type 0 where
   pub some : 1 ≤ k
-  pub most : k ≤ 9
-  pub later : first.length ≤ p
+  pub past : (split_at (k - 1)).length ≤ p
   pub whole : k + ended_by p (drop k splits) ≡ ended_by p splits
 
 pub counting_first : (p : ℕ) → first.length ≤ p → Counting p 1
-counting_first p h = record { some = omega arith; most = omega arith; later = h; whole = rw (le-leb first.length p h) (omega arith) }
+counting_first p h = record { some = omega arith; past = h; whole = rw (le-leb first.length p h) (omega arith) }
 
-module _ {p k n : ℕ} (c : Counting p k) (e : n ≡ (split_at (k + 1 - 1)).length) where
+pub counting_all : {p : ℕ} → Counting p 10 → 0 ≡ plane_place p
+counting_all c = let h = c.past in plane_none _ h
+
+module _ {p k n : ℕ} (c : Counting p k) (b : k < 10) (e : n ≡ (split_at (k + 1 - 1)).length) where
   next : drop k splits ≡ split_at k ∷ drop (suc k) splits
-  next = drop-cons splits k (split 0 0 0 0 0 0 0 0) (omega (arith, c.most))
+  next = drop-cons splits k (split 0 0 0 0 0 0 0 0) b
 
   same : n ≡ (split_at k).length
   same = let z : k + 1 - 1 ≡ k = omega arith in rw z at e
 
-  pub counting_next : p < 20 → n ≤ p → Counting p (k + 1)
-  counting_next h l =
+  pub counting_small : p < n → p < 20
+  counting_small h = omega (arith, few k b, same)
+
+  pub counting_next : n ≤ p → Counting p (k + 1)
+  counting_next l =
       let f : (split_at k).length ≤ p = omega (arith, same) in
+      let y : k + 1 - 1 ≡ k = omega arith in
       let z : k + 1 ≡ suc k = omega arith in
       let w : k + suc (ended_by p (drop (suc k) splits)) ≡ ended_by p splits = rw (next, le-leb (split_at k).length p f) at c.whole in
-      let m : k ≤ 8 = short (ltb k 9) refl f in
-      record { some = omega arith; most = omega (arith, m); later = c.later; whole = rw z (omega (arith, w)) }
-    where
-      short : (q : Bool) → ltb k 9 ≡ q → (split_at k).length ≤ p → k ≤ 8
-      short true t f = let x : k < 9 = ltb-true k 9 t in omega arith
-      short false t f = let x : 9 ≤ k = ltb-false k 9 t in let y : k ≡ 9 = omega (arith, c.most) in let v : (split_at 9).length ≤ p = subst (λ (i : ℕ). (split_at i).length ≤ p) y f in absurd (omega arith)
+      record { some = omega arith; past = rw y f; whole = rw z (omega (arith, w)) }
 
-  pub counting_done : p < 20 → p < n → p + 2 + k ≡ plane_place p
-  counting_done l h =
+  pub counting_done : p < n → p + 2 + k ≡ plane_place p
+  counting_done h =
       let f : p < (split_at k).length = omega (arith, same) in
+      let g : first.length ≤ p = let y : (split_at 0).length ≤ (split_at (k - 1)).length = grows 0 (k - 1) (omega arith) (omega arith) in omega (arith, y, c.past) in
       let w : k + 0 ≡ ended_by p splits = rw (next, lt-leb (split_at k).length p f) at c.whole in
-      plane_later p l c.later (omega (arith, w))
+      plane_later p (counting_small h) g (omega (arith, w))
 
 pub height_sign : (p : ℕ) → p ≡ 0 → 1 ≡ height_place p
 unfolding height_place

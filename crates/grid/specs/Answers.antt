@@ -1,16 +1,40 @@
 -- What a call answers: a result, or one refusal of the documents' tables with its place and ordinal.
 -- Assumes nothing.
-use Rattle.std.specs.Prelude.{ℕ, Bool, true, false, cond, List, slice_index}
+use Rattle.std.specs.Prelude.{ℕ, Bool, true, false, cond, List, Result, Ok, Err, slice_index}
+use Rattle.grid.specs.declared.Reason.{Reason}
+use Rattle.grid.specs.declared.Reason.TheVariants.{Level, Longitude, Latitude, Layer, Room, Length, Garbled, ReferenceCell, LevelsDiffer, Offset, NotANumber, PolarTarget, Edition, Minutes, AlreadyLive, Conflict, AllLive, NotLive, BookTooLong, Misplaced, BadlyFormed, NotInBook}
 use Rattle.grid.specs.declared.Refusal.{Refusal}
-use Rattle.grid.specs.declared.Cell.{Cell}
-use Rattle.grid.specs.declared.PlaneRead.{PlaneRead}
-use Rattle.grid.specs.declared.PlaneRead.TheVariants.{Found, Refused}
 use Rattle.grid.specs.Characters.{code_character}
 
 -- what a reader or a writer answers: a result, or one refusal
 pub data Answer (C : Type 0) : Type 0 where
   accepted : C → Answer C
   refused : Refusal → Answer C
+
+-- the number of a reason in the documents' table
+abbrev pub number_of : Reason → ℕ
+number_of Level = 1
+number_of Longitude = 2
+number_of Latitude = 3
+number_of Layer = 4
+number_of Room = 5
+number_of Length = 6
+number_of Garbled = 7
+number_of ReferenceCell = 8
+number_of LevelsDiffer = 9
+number_of Offset = 10
+number_of NotANumber = 11
+number_of PolarTarget = 12
+number_of Edition = 13
+number_of Minutes = 14
+number_of AlreadyLive = 15
+number_of Conflict = 16
+number_of AllLive = 17
+number_of NotLive = 18
+number_of BookTooLong = 19
+number_of Misplaced = 20
+number_of BadlyFormed = 21
+number_of NotInBook = 22
 
 -- a refusal of the only or the first code or position: ordinal 1
 abbrev pub refusal : ℕ → ℕ → Refusal
@@ -46,7 +70,7 @@ wrong_character p b = refusal (wrong_number b) p
 abbrev pub wrong_at : List ℕ → ℕ → Refusal
 wrong_at w p = wrong_character p (slice_index w p)
 
--- a plane reader's answer in the paper's numbers: the cell, or the refusal
-abbrev pub plane_read : PlaneRead → Answer Cell
-plane_read (Found c) = accepted c
-plane_read (Refused r) = refused r
+-- the answer that a call hands back as a Result: what it found, or the refusal in the paper's numbers
+abbrev pub answer_of : {C : Type 0} → Result C Refusal → Answer C
+answer_of (Ok c) = accepted c
+answer_of (Err r) = refused r

@@ -2,8 +2,6 @@
 -- Assumes nothing.
 use Rattle.std.specs.Prelude.{◌≡◌, ℕ, ◌+◌, ◌≤◌, Bool, true, false, List, ◌++◌, length, take, drop, nat_le}
 use Rattle.grid.specs.declared.Refusal.{Refusal}
-use Rattle.grid.specs.declared.Written.{Written}
-use Rattle.grid.specs.declared.Written.TheVariants.{Bytes, Refused}
 use Rattle.grid.specs.Answers.{Answer, accepted, refused, refusal}
 
 -- 5: from the place given, the line lacks bytes for the whole code
@@ -28,8 +26,3 @@ pub record LaidDown (w line : List ℕ) (at n : ℕ) (after : List ℕ) : Type 0
   pub before : take at after ≡ take at line
   pub there : take n (drop at after) ≡ w
   pub behind : drop (at + n) after ≡ drop (at + n) line
-
--- a writer's answer in the paper's numbers: the number of bytes, or the refusal
-abbrev pub written : Written → Answer ℕ
-written (Bytes n) = accepted n
-written (Refused r) = refused r

@@ -8,7 +8,7 @@ ghost use Rattle.grid.specs.Units.{side, index, unit};
 ghost use Rattle.grid.specs.Plane.{letter, least};
 ghost use Rattle.grid.specs.Splits.{split_at, polar_cell_at};
 ghost use Rattle.grid.specs.Characters.{char_of, digit_of};
-ghost use Rattle.grid.specs.Answers.{refusal, wrong_character, about};
+ghost use Rattle.grid.specs.Answers.{number_of, refusal, wrong_character, about};
 ghost use Rattle.grid.specs.inner.Roads.{DigitBelow, at_place, single_of, level_chars, LevelFits};
 ghost use Rattle.grid.specs.inner.Standing.{zone_place, level_place, plane_place, stands_at, height_place};
 
@@ -23,6 +23,9 @@ pub const TURN: u32 = 360 * DEGREE;
 pub const HALF: u32 = 180 * DEGREE;
 
 pub const QUARTER: u32 = 90 * DEGREE;
+
+// 60°, the width of a belt cell.
+pub const SIXTH: u32 = 60 * DEGREE;
 
 // 88°, where the ordinary cells end, and 89°, where the belt ends and the disc begins.
 pub const POLAR: u32 = 88 * DEGREE;
@@ -69,26 +72,40 @@ pub struct SpaceCell {
     pub thickness: u32,
 }
 
+// Why a call is refused: the documents' table, in the order of its numbers, from 1.
+#[derive(Clone, Copy, Debug, PartialEq, Eq)]
+pub enum Reason {
+    Level = 1,
+    Longitude = 2,
+    Latitude = 3,
+    Layer = 4,
+    Room = 5,
+    Length = 6,
+    Garbled = 7,
+    ReferenceCell = 8,
+    LevelsDiffer = 9,
+    Offset = 10,
+    NotANumber = 11,
+    PolarTarget = 12,
+    Edition = 13,
+    Minutes = 14,
+    AlreadyLive = 15,
+    Conflict = 16,
+    AllLive = 17,
+    NotLive = 18,
+    BookTooLong = 19,
+    Misplaced = 20,
+    BadlyFormed = 21,
+    NotInBook = 22,
+}
+
 // A refusal: its number in the documents, the place that it speaks of (a bad character's, or a record's), and which code it is about.
+// By its number, as `refusal` and every theorem of a refusal speak of it, and as C gets it; code that refuses names a `Reason`.
 #[derive(Clone, Copy)]
 pub struct Refusal {
     pub number: u32,
     pub place: usize,
     pub ordinal: u32,
-}
-
-// A writer's answer: the number of bytes written, or a refusal.
-#[derive(Clone, Copy)]
-pub enum Written {
-    Bytes(usize),
-    Refused(Refusal),
-}
-
-// A plane reader's answer.
-#[derive(Clone, Copy)]
-pub enum PlaneRead {
-    Found(Cell),
-    Refused(Refusal),
 }
 
 // ---- refusals: all of them are made here, and readers and writers pass them on
@@ -98,9 +115,18 @@ pub fn refuse(number: u32) -> Refusal
     ensures { result ≡ refusal number 0 }
 {
     Refusal {
-        number: number,
+        number,
         place: 0,
         ordinal: 1,
+    }
+}
+
+impl Reason {
+    // The refusal for a reason, by its number in the documents' table.
+    pub fn refuse(self) -> Refusal
+        ensures { result ≡ refusal (number_of self) 0 }
+    {
+        refuse(self as u32)
     }
 }
 
@@ -109,9 +135,9 @@ pub fn wrong_character(place: usize, b: u8) -> Refusal
     ensures { result ≡ wrong_character place b }
 {
     if digit(b) < 32 {
-        at_place(place, refuse(20))
+        at_place(place, Reason::Misplaced.refuse())
     } else {
-        at_place(place, refuse(7))
+        at_place(place, Reason::Garbled.refuse())
     }
 }
 
@@ -127,29 +153,21 @@ pub fn wrong_in(spaced: bool, code: &[u8], p: usize) -> Refusal
 pub fn about(k: u32, r: Refusal) -> Refusal
     ensures { result ≡ about k r }
 {
-    Refusal {
-        number: r.number,
-        place: r.place,
-        ordinal: k,
-    }
+    Refusal { ordinal: k, ..r }
 }
 
 // The same refusal, at the place that its character has in a longer code.
 pub fn at_place(place: usize, r: Refusal) -> Refusal
     ensures { result ≡ at_place place r }
 {
-    Refusal {
-        number: r.number,
-        place: place,
-        ordinal: r.ordinal,
-    }
+    Refusal { place, ..r }
 }
 
 // How many bytes a line of a length has from a place on: none where the place is past the end.
 pub fn room_from(length: usize, at: usize) -> usize
     ensures { result ≡ length - at }
 {
-    if length < at { 0 } else { length - at }
+    length.saturating_sub(at)
 }
 
 // A position on the globe, by the side and the outward index of its longitude and of its latitude.
@@ -161,7 +179,7 @@ pub struct Place {
     pub y: u32,
 }
 
-const SPLITS: [Split; 10] = [
+static SPLITS: [Split; 10] = [
     Split {
         columns: 60,
         rows: 22,
@@ -339,7 +357,8 @@ pub fn split_of(k: usize) -> Split
     SPLITS[k]
 }
 
-// The length of the codes of a level.
+// The length of the codes of a level. By a match: as one line of the table it costs a plane write 6 instructions and 8 bytes of stack.
+// A level goes as a number through the code, as through every definition; its bounds stand once in each record of specs/ that asks for them.
 pub fn length_of(level: u32) -> usize
     requires { (1 ≤ level) × (level ≤ 10) }
     ensures { result ≡ (split_at (level - 1)).length }
@@ -366,7 +385,8 @@ fn polar_line(k: usize) -> PolarCell
     POLAR_CELLS[k]
 }
 
-// The polar cell with the digits a and b, k being 4a + b. By a match, as `length_of`: a table that is indexed by a variable is built on the stack.
+// The polar cell with the digits a and b, k being 4a + b. By a match: as one line of the table it costs a polar plane write 41 instructions
+// and 88 bytes of stack.
 pub fn polar_cell(k: usize) -> PolarCell
     requires { k < 16 }
     ensures { result ≡ polar_cell_at k }
@@ -403,7 +423,7 @@ pub fn character(v: u32) -> u8
     }
 }
 
-// A character's digit, 32 where it is no code character.
+// A character's digit, 32 where it is no code character: a number, as `digit_of` has it, since readers test it against a bound.
 // The two tests compile to conditional moves: which of them a character passes cannot be foretold.
 pub fn digit(b: u8) -> u32
     ensures { result ≡ digit_of b }
@@ -416,36 +436,21 @@ pub fn digit(b: u8) -> u32
     if letter < 22 { letter + 10 } else { 32 }
 }
 
-// A character's digit, as far as a test against a bound of at most 32 can tell: no code character gives less than 32.
-// One conditional move less than `digit`: 65 is taken off modulo 256, so that what stands before A comes out above V.
-pub fn value(b: u8) -> u32
-    ensures { DigitBelow 32 b result }
-{
-    let decimal = std::num::wrapping_sub_u32(b as u32, 48);
-    if decimal < 10 {
-        return decimal;
-    }
-    std::num::wrapping_sub_u8(b, 65) as u32 + 10
-}
-
-// The same for bounds of at most 10: nothing but 0 to 9 gives less than 10. No conditional move at all.
-pub fn decimal_value(b: u8) -> u32
-    ensures { DigitBelow 10 b result }
-{
-    std::num::wrapping_sub_u32(b as u32, 48)
-}
-
-// The same for bounds of at most the limit: letters are looked for only where it needs them. Where the limit is known when the caller is compiled,
-// the test here is gone.
+// A character's digit, as far as a test against a bound of at most the limit can tell: no code character gives less than 32. With no conditional move for
+// digits alone, and one less than `digit` for letters: 65 is taken off modulo 256, so that what stands before A comes out above V. Where the limit is known
+// when the caller is compiled, its test is gone.
 pub fn digit_below(limit: u32, b: u8) -> u32
     requires { limit ≤ 32 }
     ensures { DigitBelow limit b result }
 {
+    let decimal = std::num::wrapping_sub_u32(b as u32, 48);
     if limit <= 10 {
-        decimal_value(b)
-    } else {
-        value(b)
+        return decimal;
     }
+    if decimal < 10 {
+        return decimal;
+    }
+    std::num::wrapping_sub_u8(b, 65) as u32 + 10
 }
 
 // N or S, a code's first character.
@@ -535,20 +540,15 @@ pub fn height_place(p: usize) -> usize
 pub fn plane_place(p: usize) -> usize
     ensures { result ≡ plane_place p }
 {
-    if 20 <= p {
-        return 0;
-    }
     if p < length_of(1) {
-        if p == 0 {
-            return 0;
+        return if p == 0 { 0 } else { p + 1 };
+    }
+    for k in 1..10 {
+        if p < length_of(k + 1) {
+            return p + 2 + k as usize;
         }
-        return p + 1;
     }
-    let mut k: u32 = 1;
-    while length_of(k + 1) <= p {
-        k += 1;
-    }
-    p + 2 + k as usize
+    0
 }
 
 // Where the plane character p stands, in a plane code or in a space code.
@@ -556,6 +556,16 @@ pub fn stands_at(spaced: bool, p: usize) -> usize
     ensures { result ≡ stands_at spaced p }
 {
     if spaced { plane_place(p) } else { p }
+}
+
+// The digits of level k + 1, a later one, each at its place in a plane code, or in a space code where `SPACED` is true: nothing where a code of the
+// level ends before them.
+pub fn put_level<const SPACED: bool>(level: u32, k: u32, d: Digits, line: &mut [u8])
+    requires { (k < 10) × LevelFits level k (split_at k) d line.old (level_place SPACED k (split_at k)) }
+    ensures { line.new ≡ sets line.old (level_place SPACED k (split_at k)) (level_chars level k (split_at k) d) }
+{
+    let s = split_of(k as usize);
+    put_digits(level, k, s, d, line, level_place(SPACED, k, s));
 }
 
 // ---- signed numbers, by their side of 0 and their outward index

@@ -1,39 +1,37 @@
 -- Two results that one contract allows are equal: for each public call of the library, and for its C form. Each contract stands here as it does in the code.
 -- Assumes nothing.
-use mathlib.Core.Path.{◌≡◌, refl, sym, ◌∙◌}
+use mathlib.Core.Path.{◌≡◌, refl, sym, ap, ◌∙◌}
 use mathlib.Core.List.{List}
 use Prim.Native.Nat.{ℕ}
 use lib.IntN.{ℤ}
 use lib.Ieee.{Float}
+use Rattle.std.specs.Prelude.{Result, Ok, Err}
 use Rattle.grid.specs.declared.Cell.{Cell}
-use Rattle.grid.specs.declared.PlaneRead.{PlaneRead}
-use Rattle.grid.specs.declared.Written.{Written}
-use Rattle.grid.specs.Answers.{Answer, accepted, refused, plane_read}
-use Rattle.grid.specs.Laying.{laid, written}
+use Rattle.grid.specs.declared.Refusal.{Refusal}
+use Rattle.grid.specs.declared.SpaceCell.{SpaceCell}
+use Rattle.grid.specs.Answers.{Answer, accepted, refused, answer_of}
+use Rattle.grid.specs.Laying.{laid}
 use Rattle.grid.specs.Plane.{cell_of}
 use Rattle.grid.specs.Space.{space_cell_in}
+use Rattle.grid.proofs.Answers.{accepted_inj}
 use Rattle.grid.proofs.Cut.{clash}
-use Rattle.grid.proofs.Laying.{laid_one, plane_read_one}
+use Rattle.grid.proofs.Laying.{laid_one, answer_one}
 use Rattle.plane.specs.Text.{plane_text}
-use Rattle.space.specs.declared.SpaceRead.{SpaceRead}
-use Rattle.space.specs.declared.SpaceRead.TheVariants as space-as
-use Rattle.space.specs.Space.{space_text, space_read}
+use Rattle.space.specs.Space.{space_text}
 use Rattle.reference.specs.Text.{reference_text, target_text}
-use Rattle.arcseconds.specs.declared.UnitsRead.{UnitsRead}
-use Rattle.arcseconds.specs.Readings.{units_of, units_read}
+use Rattle.arcseconds.specs.declared.Units.{Units}
+use Rattle.arcseconds.specs.Readings.{units_of}
 use Rattle.arcseconds.specs.Boxes.{BoxSays}
 use Rattle.arcseconds.proofs.Exact.{one_exactly}
 use Rattle.arcseconds.proofs.Theorems as arc
 use Rattle.reservations.specs.declared.Reservation.{Reservation}
-use Rattle.book.specs.declared.Ask.{Ask}
-use Rattle.book.specs.declared.Booked.{Booked}
-use Rattle.book.specs.declared.Booked.TheVariants as book-as
 use Rattle.book.specs.declared.Done.{Done}
-use Rattle.book.specs.Asking.{plane_record, ground_record, space_record, to_add, to_release}
-use Rattle.book.specs.Book.{carried, used_in, booked}
-use Rattle.places.specs.declared.Found.{Found}
-use Rattle.places.specs.declared.Found.TheVariants as found_as
-use Rattle.places.specs.Finding.{place_found, found_in, part_in}
+use Rattle.book.specs.Asking.{Ask, plane_record, ground_record, space_record, to_add, to_release}
+use Rattle.book.specs.Book.{carried, used_in, booked, used_by}
+use Rattle.places.specs.declared.NotFound.{NotFound}
+use Rattle.places.specs.declared.NotFound.TheVariants as why_as
+use Rattle.places.specs.declared.Spot.{Spot}
+use Rattle.places.specs.Finding.{place_refusal, place_found, found_in, part_in}
 use Rattle.places.proofs.Finding.{missing_not_badly}
 use Rattle.short_codes.specs.Text.{short_text}
 use Rattle.hailgully.specs.declared.HgBooked.{HgBooked}
@@ -49,68 +47,62 @@ use Rattle.hailgully.specs.Determined.{Determined}
 -- ---- the library's calls
 
 -- a writer that lays the text t down
-written_one : (t : Answer (List ℕ)) (line : List ℕ) (at : ℕ) → Determined (λ (r : Written × List ℕ). (written r.0, r.1) ≡ laid t line at)
+written_one : (t : Answer (List ℕ)) (line : List ℕ) (at : ℕ) → Determined (λ (r : Result ℕ Refusal × List ℕ). (answer_of r.0, r.1) ≡ laid t line at)
 written_one t line at a b e f = let w = laid_one t line at a.0 b.0 a.1 b.1 e f in λ j. (w.0 j, w.1 j)
 
 pub plane_write : (level longitude latitude : ℤ) (line : List ℕ) (at : ℕ)
-    → Determined (λ (r : Written × List ℕ). (written r.0, r.1) ≡ laid (plane_text level longitude latitude) line at)
+    → Determined (λ (r : Result ℕ Refusal × List ℕ). (answer_of r.0, r.1) ≡ laid (plane_text level longitude latitude) line at)
 plane_write level longitude latitude line at = written_one (plane_text level longitude latitude) line at
 
-pub plane_read_law : (code : List ℕ) → Determined (λ (r : PlaneRead). plane_read r ≡ cell_of code)
-plane_read_law code a b e f = plane_read_one a b (e ∙ sym f)
+pub plane_read_law : (code : List ℕ) → Determined (λ (r : Result Cell Refusal). answer_of r ≡ cell_of code)
+plane_read_law code a b e f = answer_one a b (e ∙ sym f)
 
 pub space_write : (edition level longitude latitude layer : ℤ) (line : List ℕ) (at : ℕ)
-    → Determined (λ (r : Written × List ℕ). (written r.0, r.1) ≡ laid (space_text edition level longitude latitude layer) line at)
+    → Determined (λ (r : Result ℕ Refusal × List ℕ). (answer_of r.0, r.1) ≡ laid (space_text edition level longitude latitude layer) line at)
 space_write edition level longitude latitude layer line at = written_one (space_text edition level longitude latitude layer) line at
 
-space_read_one : (a b : SpaceRead) → space_read a ≡ space_read b → a ≡ b
-space_read_one (space-as.Found c) (space-as.Found d) e = cc
-space_read_one (space-as.Found c) (space-as.Refused r) e = clash (cc)
-space_read_one (space-as.Refused r) (space-as.Found d) e = clash (cc)
-space_read_one (space-as.Refused r) (space-as.Refused q) e = cc
-
-pub space_read_law : (edition : ℤ) (code : List ℕ) → Determined (λ (r : SpaceRead). space_read r ≡ space_cell_in edition code)
-space_read_law edition code a b e f = space_read_one a b (e ∙ sym f)
+pub space_read_law : (edition : ℤ) (code : List ℕ) → Determined (λ (r : Result SpaceCell Refusal). answer_of r ≡ space_cell_in edition code)
+space_read_law edition code a b e f = answer_one a b (e ∙ sym f)
 
 pub reference_write : (base target line : List ℕ) (at : ℕ)
-    → Determined (λ (r : Written × List ℕ). (written r.0, r.1) ≡ laid (reference_text base target) line at)
+    → Determined (λ (r : Result ℕ Refusal × List ℕ). (answer_of r.0, r.1) ≡ laid (reference_text base target) line at)
 reference_write base target line at = written_one (reference_text base target) line at
 
 pub reference_read : (code line : List ℕ) (at : ℕ)
-    → Determined (λ (r : Written × List ℕ). (written r.0, r.1) ≡ laid (target_text code) line at)
+    → Determined (λ (r : Result ℕ Refusal × List ℕ). (answer_of r.0, r.1) ≡ laid (target_text code) line at)
 reference_read code line at = written_one (target_text code) line at
 
-pub arcseconds_read : (longitude latitude : Float) → Determined (λ (r : UnitsRead). units_read r ≡ units_of longitude latitude)
+pub arcseconds_read : (longitude latitude : Float) → Determined (λ (r : Result Units Refusal). answer_of r ≡ units_of longitude latitude)
 arcseconds_read longitude latitude a b e f = arc.one_units_read longitude latitude a b e f
 
 -- the f64 results too
 pub plane_box : (code : List ℕ) → Determined (BoxSays (cell_of code))
 plane_box code a b e f = arc.one_box_read (cell_of code) a b e f
 
-booked_one : (a b : Booked) → booked a ≡ booked b → a ≡ b
-booked_one (book-as.At k) (book-as.At j) e = cc
-booked_one (book-as.At k) (book-as.Refused r) e = clash (cc)
-booked_one (book-as.Refused r) (book-as.At k) e = clash (cc)
-booked_one (book-as.Refused r) (book-as.Refused q) e = cc
+booked_one : (a b : Result Done Refusal) → booked a ≡ booked b → used_by a ≡ used_by b → a ≡ b
+booked_one (Ok d) (Ok e) f g = λ j. Ok (record { at = accepted_inj f j; used = g j })
+booked_one (Ok d) (Err r) f g = clash (cc)
+booked_one (Err r) (Ok d) f g = clash (cc)
+booked_one (Err r) (Err q) f g = cc
 
 -- the answer, the record used, and every record of the book
 pub book_run : (q : Ask) (book : List Reservation)
-    → Determined (λ (r : Done × List Reservation). (booked r.0.answer ≡ (carried q book).0) × (r.0.used ≡ used_in (carried q book)) × (r.1 ≡ (carried q book).1))
-book_run q book a b e f =
-    λ j. (record { answer = booked_one a.0.answer b.0.answer (e.0 ∙ sym f.0) j; used = (e.1 ∙ sym f.1) j }, (e.2 ∙ sym f.2) j)
+    → Determined (λ (r : Result Done Refusal × List Reservation). (booked r.0 ≡ (carried q book).0) × (used_by r.0 ≡ used_in (carried q book)) × (r.1 ≡ (carried q book).1))
+book_run q book a b e f = λ j. (booked_one a.0 b.0 (e.0 ∙ sym f.0) (e.1 ∙ sym f.1) j, (e.2 ∙ sym f.2) j)
 
-found_one : (a b : Found) → place_found a ≡ place_found b → a ≡ b
-found_one (found_as.At p) (found_as.At q) e = cc
-found_one (found_as.At p) found_as.BadlyFormed e = clash (cc)
-found_one (found_as.At p) found_as.NotInBook e = clash (cc)
-found_one found_as.BadlyFormed (found_as.At q) e = clash (cc)
-found_one found_as.BadlyFormed found_as.BadlyFormed e = refl
-found_one found_as.BadlyFormed found_as.NotInBook e = absurd (missing_not_badly (sym e))
-found_one found_as.NotInBook (found_as.At q) e = clash (cc)
-found_one found_as.NotInBook found_as.BadlyFormed e = absurd (missing_not_badly e)
-found_one found_as.NotInBook found_as.NotInBook e = refl
+why_one : (a b : NotFound) → ◌≡◌ {A = Answer Spot} (refused (place_refusal a)) (refused (place_refusal b)) → a ≡ b
+why_one why_as.BadlyFormed why_as.BadlyFormed e = refl
+why_one why_as.BadlyFormed why_as.NotInBook e = absurd (missing_not_badly (sym e))
+why_one why_as.NotInBook why_as.BadlyFormed e = absurd (missing_not_badly e)
+why_one why_as.NotInBook why_as.NotInBook e = refl
 
-pub places_find : (name places : List ℕ) → Determined (λ (r : Found). place_found r ≡ found_in name places)
+found_one : (a b : Result Spot NotFound) → place_found a ≡ place_found b → a ≡ b
+found_one (Ok p) (Ok q) e = cc
+found_one (Ok p) (Err b) e = clash (cc)
+found_one (Err a) (Ok q) e = clash (cc)
+found_one (Err a) (Err b) e = ap Err (why_one a b e)
+
+pub places_find : (name places : List ℕ) → Determined (λ (r : Result Spot NotFound). place_found r ≡ found_in name places)
 places_find name places a b e f = found_one a b (e ∙ sym f)
 
 -- an equation of the result
@@ -122,7 +114,7 @@ pub places_part : (name places : List ℕ) → Determined (λ (r : List ℕ). r 
 places_part name places = equal
 
 pub short_read : (code places line : List ℕ) (at : ℕ)
-    → Determined (λ (r : Written × List ℕ). (written r.0, r.1) ≡ laid (short_text code places) line at)
+    → Determined (λ (r : Result ℕ Refusal × List ℕ). (answer_of r.0, r.1) ≡ laid (short_text code places) line at)
 short_read code places line at = written_one (short_text code places) line at
 
 -- ---- their C forms

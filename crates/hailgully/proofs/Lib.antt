@@ -1,3 +1,4 @@
+pub mod Filling
 pub mod Boxes
 pub mod Parts
 pub mod Determined

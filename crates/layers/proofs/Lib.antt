@@ -1,5 +1,6 @@
 pub mod Places
 pub mod Radices
+pub mod Products
 pub mod Sides
 pub mod Digits
 pub mod Writing

@@ -1,7 +1,7 @@
 -- What a fair list of radices says: each radix, and how many layers a cell of each level has.
 -- Assumes nothing.
 use mathlib.Core.Path.{◌≡◌, refl, sym, ap, subst}
-use mathlib.Core.Bool.{Bool, true, false, ◌&&◌}
+use mathlib.Core.Bool.{true, ◌&&◌}
 use mathlib.Core.List.{List, [], ◌∷◌}
 use Prim.Native.Nat.{ℕ, zero, suc, ◌+◌, ◌*◌, ◌≤◌, ◌<◌}
 use native.Mathlib.Omega.{arith}
@@ -13,17 +13,15 @@ use lib.Seq.{drop-cons}
 use borrow.Author.Tests.{ltb-true, leb-true, eqb-true}
 use Rattle.grid.specs.Layers.{product}
 use Rattle.grid.proofs.Cut.{and_true, clash}
+use Rattle.layers.specs.declared.Edition.{Edition}
+use Rattle.layers.specs.declared.Edition.TheVariants.{First, Second}
 use Rattle.layers.specs.inner.Editions.{radices_of}
 use Rattle.layers.specs.inner.Steps.{fair_later, Fair, thickness_at}
 
 -- either edition's radices are fair
-pub edition_fair : (second : Bool) → Fair (radices_of second)
-edition_fair true = record { test = refl }
-edition_fair false = record { test = refl }
-
--- and so are those that the code holds
-pub fair_by : (second : Bool) {rs : List ℕ} → rs ≡ radices_of second → Fair rs
-fair_by second e = subst Fair (sym e) (edition_fair second)
+pub edition_fair : (edition : Edition) → Fair (radices_of edition)
+edition_fair First = record { test = refl }
+edition_fair Second = record { test = refl }
 
 -- ---- the test taken apart
 

@@ -13,16 +13,17 @@ use lib.Seq.{drop-cons, get_or-take, length-take-le}
 use borrow.Author.Tests.{lt-ltb, le-ltb, le-leb, lt-leb}
 use Rattle.grid.specs.Characters.{digit_of}
 use Rattle.grid.specs.inner.Roads.{DigitBelow}
-use Rattle.grid.specs.inner.Standing.{height_place, count_from}
+use Rattle.grid.specs.inner.Standing.{length_in, height_place, count_from}
+use Rattle.std.specs.Prelude.{Result, Ok, Err, IfOk}
 use Rattle.grid.specs.Tree.{Read, ok, bad, guard, shift, next, follow}
 use Rattle.grid.specs.Layers.{product, Stack, part, all_child}
 use Rattle.grid.proofs.Cut.{clash, cut_end}
 use Rattle.grid.proofs.Laws.{shift_shift}
 use Rattle.grid.proofs.Characters.{told}
 use Rattle.grid.proofs.Standing.{given_at, given_length}
-use Rattle.layers.specs.declared.Height.{Height}
-use Rattle.layers.specs.Heights.{later_height, height_levels, height_read}
-use Rattle.layers.specs.inner.Steps.{height_of, Fair, thickness_at, standing, Readable, BadAt, HeightFirst, height_rest, Upto}
+use Rattle.layers.specs.declared.Layers.{Layers}
+use Rattle.layers.specs.Heights.{later_height, height_levels, height_read, layers_read}
+use Rattle.layers.specs.inner.Steps.{Fair, thickness_at, standing, Readable, KnownLayers, child_at, height_rest, Upto}
 use Rattle.layers.proofs.Radices.{ten, product_fits, first_radix, later_radix, thick_top, thick_step}
 
 -- a level, and as many height characters as a code of it has
@@ -35,6 +36,14 @@ module _ {level : ℕ} {code : List ℕ} (d : Readable level code) where
   abbrev at : ℕ → ℕ
   at p = get_or code (height_place p) 0
 
+  -- what stands there
+  pub stands : (i : ℕ) → i < 2 + level → get_or (standing level code) i 0 ≡ at i
+  stands i h = get_or-take (2 + level) (map at (count_from 0 12)) i 0 h ∙ given_at at 12 i (omega (arith, d.ten_levels))
+
+  -- the same, as the code reads it
+  pub digit_stands : (rs : List ℕ) (k : ℕ) (m : Layers) → k < level → child_at rs k (get_or code (height_place (k + 2)) 0) m ≡ child_at rs k (get_or (standing level code) (k + 2) 0) m
+  digit_stands rs k m h = ap (λ (b : ℕ). child_at rs k b m) (sym (stands (k + 2) (omega arith)))
+
   -- those that stand in a code are as many
   pub sized : Sized level (standing level code)
   sized = record { some_level = d.some_level; ten_levels = d.ten_levels; exactly = length-take-le (2 + level) (map at (count_from 0 12)) (omega (arith, given_length at 12, d.ten_levels)) }
@@ -43,13 +52,7 @@ module _ {level : ℕ} {code : List ℕ} (d : Readable level code) where
   pub digit_at : {p q v : ℕ} (i : ℕ) → i < 2 + level → p ≡ height_place i → DigitBelow q (get_or code p 0) v → DigitBelow q (get_or (standing level code) i 0) v
   digit_at {q = q} {v} i h e =
       subst (λ (x : ℕ). DigitBelow q x v)
-      (ap (λ (p : ℕ). get_or code p 0) e ∙ sym (get_or-take (2 + level) (map at (count_from 0 12)) i 0 h ∙ given_at at 12 i (omega (arith, d.ten_levels))))
-
-bad_read : {p : ℕ} {h : Height} → BadAt p h → height_of h ≡ bad p
-bad_read b = rw (b.none, b.place) refl
-
-bad_never : {A : Type 0} {p : ℕ} {h : Height} → BadAt p h → h.good ≡ true → A
-bad_never b g = clash (let n = b.none in cc)
+      (ap (λ (p : ℕ). get_or code p 0) e ∙ sym (stands i h))
 
 -- ---- level 1
 
@@ -60,27 +63,6 @@ module _ (rs : List ℕ) (s a b : ℕ) (e : Fair rs) where
   abbrev read : Read Stack
   read = all_child (product rs) r (s ∷ a ∷ b ∷ [])
 
-  stops : {p : ℕ} {h : Height} → BadAt p h → read ≡ bad p → HeightFirst rs s a b h
-  stops x f = record { read = bad_read x ∙ sym f; thick = bad_never x; inside = bad_never x }
-
-  pub first_sign : {h : Height} → 2 ≤ s → BadAt 0 h → HeightFirst rs s a b h
-  first_sign l x = stops x (rw (le-ltb s 2 l) refl)
-
-  module _ (p : s < 2) where
-    -- with tens from 10 on the number is 100 or more
-    pub first_hundred : {h : Height} → 9 < a → BadAt 1 h → HeightFirst rs s a b h
-    first_hundred l x = stops x (rw (lt-ltb s 2 p, le-ltb (10 * a) r (omega (arith, (first_radix rs e).few))) refl)
-
-    pub first_tens : {h : Height} → r ≤ 10 * a → BadAt 1 h → HeightFirst rs s a b h
-    first_tens l x = stops x (rw (lt-ltb s 2 p, le-ltb (10 * a) r l) refl)
-
-    module _ (q : 10 * a < r) where
-      pub first_ones : {h : Height} → 9 < b → BadAt 2 h → HeightFirst rs s a b h
-      first_ones l x = stops x (rw (lt-ltb s 2 p, lt-ltb (10 * a) r q, lt-leb b 9 l) refl)
-
-      pub first_most : {h : Height} → b ≤ 9 → r ≤ 10 * a + b → BadAt 2 h → HeightFirst rs s a b h
-      first_most k l x = stops x (rw (lt-ltb s 2 p, lt-ltb (10 * a) r q, le-leb b 9 k, le-ltb (10 * a + b) r l) refl)
-
   first_end : 10 * a + b < r → (10 * a + b) * thickness_at rs 1 + thickness_at rs 1 ≤ product rs
   first_end l = cut_end (10 * a + b) r (thickness_at rs 1) (product rs) l (thick_step rs 0 e (omega arith) ∙ thick_top rs)
 
@@ -89,17 +71,15 @@ module _ (rs : List ℕ) (s a b : ℕ) (e : Fair rs) where
       ap (λ (n : ℕ). n / r) (sym (thick_step rs 0 e (omega arith) ∙ thick_top rs))
       ∙ mul-div_right (thickness_at rs 1) {m = r} (first_radix rs e).more
 
-  pub first_fits : (t : ℕ) → t ≡ thickness_at rs 1 → 10 * a + b < r → (10 * a + b) * t + t ≤ 2147483648
-  first_fits t i l = let z = first_end l in rw i (omega (arith, product_fits rs e))
+  module _ (t : ℕ) (i : t ≡ thickness_at rs 1) (m : 10 * a + b < r) where
+    pub first_fits : (10 * a + b) * t + t ≤ 2147483648
+    first_fits = let z = first_end m in rw i (omega (arith, product_fits rs e))
 
-  pub first_read : (t p : ℕ) → t ≡ thickness_at rs 1 → s < 2 → 10 * a < r → b ≤ 9 → 10 * a + b < r
-      → HeightFirst rs s a b (record { good = true; place = p; above = eqb s 0; low = (10 * a + b) * t; thick = t })
-  first_read t p i j k l m =
-      record {
-        read = rw (i, lt-ltb s 2 j, lt-ltb (10 * a) r k, le-leb b 9 l, lt-ltb (10 * a + b) r m, first_part) refl;
-        thick = λ g. i;
-        inside = λ g. rw i (first_end m);
-      }
+    pub first_read : s < 2 → 10 * a < r → b ≤ 9 → ok (part (eqb s 0) ((10 * a + b) * t) t) ≡ read
+    first_read j k l = rw (i, lt-ltb s 2 j, lt-ltb (10 * a) r k, le-leb b 9 l, lt-ltb (10 * a + b) r m, first_part) refl
+
+    pub first_known : KnownLayers rs 1 (record { lowest = record { rise = (10 * a + b) * t; above = eqb s 0 }; thickness = t })
+    first_known = record { thick = i; inside = rw i (first_end m) }
 
 -- the first three characters
 three : (w : List ℕ) → 3 ≤ length w → take 3 (map digit_of w) ≡ digit_of (get_or w 0 0) ∷ digit_of (get_or w 1 0) ∷ digit_of (get_or w 2 0) ∷ []
@@ -117,20 +97,14 @@ as_told top r {x} {y} {z} {s} {a} {b} h i j k =
     ∙ told k (λ m. all_child top r (digit_of x ∷ digit_of y ∷ m ∷ [])) (guard 0 (ltb (digit_of x) 2) (guard 1 (ltb (10 * digit_of y) r) (bad 2)))
     (λ m n. rw (lt-leb m 9 (omega arith)) refl)
 
-pub started : (rs : List ℕ) (level : ℕ) (w : List ℕ) {s a b : ℕ} {h : Height} → Fair rs → Sized level w
-    → DigitBelow 10 (get_or w 0 0) s → DigitBelow 10 (get_or w 1 0) a → DigitBelow 10 (get_or w 2 0) b → HeightFirst rs s a b h → Upto rs level 1 w h
-unfolding height_read follow
-started rs zero w e d i j k f = absurd (omega (arith, d.some_level))
-started [] (suc l) w e d i j k f = clash (let t = e.test in cc)
-started (r ∷ rs) (suc l) w {h = h} e d i j k f =
-    let m : 3 ≤ length w = omega (arith, d.exactly) in
-    let c : all_child (product (r ∷ rs)) r (take 3 (map digit_of w)) ≡ height_of h =
-    rw (three w m) (sym (f.read ∙ as_told (product (r ∷ rs)) r (first_radix (r ∷ rs) e).few i j k)) in
-    record {
-      whole = ap (λ x. next 3 x (height_rest (r ∷ rs) (suc l) 1 w)) c;
-      thick = λ g o. f.thick g;
-      inside = f.inside;
-    }
+-- as the code finds them
+pub started : (rs : List ℕ) (code : List ℕ) {p q u s a b : ℕ} (h : Result Layers ℕ) → Fair rs → length_in true 1 ≤ length code
+    → p ≡ height_place 0 → q ≡ height_place 1 → u ≡ height_place 2
+    → DigitBelow 10 (get_or code p 0) s → DigitBelow 10 (get_or code q 0) a → DigitBelow 10 (get_or code u 0) b
+    → layers_read h ≡ all_child (product rs) (get_or rs 0 0) (s ∷ a ∷ b ∷ []) → layers_read h ≡ all_child (product rs) (get_or rs 0 0) (map digit_of (standing 1 code))
+started rs code h e l i j k x y z f =
+    let d : Readable 1 code = record { some_level = omega arith; ten_levels = omega arith; room = l } in
+    f ∙ as_told (product rs) (get_or rs 0 0) (first_radix rs e).few (digit_at d 0 (omega arith) i x) (digit_at d 1 (omega arith) j y) (digit_at d 2 (omega arith) k z)
 
 -- ---- a later level
 
@@ -143,23 +117,50 @@ level_at rs zero l e = absurd (omega arith)
 level_at [] (suc k) l e = clash (let t = e.test in cc)
 level_at (r ∷ rs) (suc k) l e = get_or-map later_height rs k 0
 
+-- what a digit leads to
+module _ (rs : List ℕ) (k : ℕ) (e : Fair rs) (from : 1 ≤ k) (to : k < 10) (m : Layers) (u : KnownLayers rs k m) where
+  cell : get_or rs k 0 * thickness_at rs (k + 1) ≡ m.thickness
+  cell = thick_step rs k e to ∙ sym u.thick
+
+  pub child : m.thickness / get_or rs k 0 ≡ thickness_at rs (k + 1)
+  child = ap (λ (y : ℕ). y / get_or rs k 0) (sym cell) ∙ mul-div_right (thickness_at rs (k + 1)) {m = get_or rs k 0} (later_radix rs k e from to).more
+
+  -- as the code finds it: the radix q, and x that tells the digit of b
+  module _ (q : ℕ) (r : q ≡ get_or rs k 0) {b x : ℕ} (i : DigitBelow q b x) (l : x < q) where
+    same : x ≡ digit_of b
+    same = omega (arith, i.tells)
+
+    thick : m.thickness / q ≡ thickness_at rs (k + 1)
+    thick = ap (λ (y : ℕ). m.thickness / y) r ∙ child
+
+    end : m.lowest.rise + x * (m.thickness / q) + m.thickness / q ≤ product rs
+    end =
+        let c = cut_end x q (m.thickness / q) m.thickness l (ap (λ (y : ℕ). q * y) thick ∙ ap (λ (y : ℕ). y * thickness_at rs (k + 1)) r ∙ cell) in
+        omega (arith, u.inside)
+
+    pub next_read : ok (part m.lowest.above (m.lowest.rise + x * (m.thickness / q)) (m.thickness / q)) ≡ child_at rs k b m
+    next_read = rw (lt-ltb (digit_of b) (get_or rs k 0) (subst (λ (y : ℕ). y < get_or rs k 0) same (rw r at l)), ← same, thick) refl
+
+    pub next_known : KnownLayers rs (k + 1) (record { lowest = record { rise = m.lowest.rise + x * (m.thickness / q); above = m.lowest.above }; thickness = m.thickness / q })
+    next_known = record { thick = thick; inside = end }
+
 module _ (rs : List ℕ) (level k : ℕ) (w : List ℕ) (e : Fair rs) (from : 1 ≤ k) (to : k < 10) (d : Sized level w) where
   -- the level's radix and digit
-  abbrev q : ℕ
-  q = get_or rs k 0
+  abbrev radix : ℕ
+  radix = get_or rs k 0
 
   abbrev v : ℕ
   v = digit_of (get_or w (k + 2) 0)
 
   -- what is left after k levels, where the code has level k + 1: its digit, and what is left after it
   rest_step : k < level → (a : Bool) (low n : ℕ)
-      → height_rest rs level k w (part a low n) ≡ next 1 (guard 0 (ltb v q) (ok (part a (low + v * (n / q)) (n / q)))) (height_rest rs level (k + 1) w)
+      → height_rest rs level k w (part a low n) ≡ next 1 (guard 0 (ltb v radix) (ok (part a (low + v * (n / radix)) (n / radix)))) (height_rest rs level (k + 1) w)
   unfolding follow
   rest_step h a low n =
       let L = take level (height_levels rs) in
       let ln : length L ≡ level = length-take level (height_levels rs) ∙ omega (arith, levels_ten rs e, d.ten_levels) in
-      let g : get_or L k (later_height 0) ≡ later_height q = get_or-take level (height_levels rs) k (later_height 0) h ∙ level_at rs k from e in
-      let c : drop k L ≡ later_height q ∷ drop (suc k) L = drop-cons L k (later_height 0) (omega arith) ∙ ap (λ t. t ∷ drop (suc k) L) g in
+      let g : get_or L k (later_height 0) ≡ later_height radix = get_or-take level (height_levels rs) k (later_height 0) h ∙ level_at rs k from e in
+      let c : drop k L ≡ later_height radix ∷ drop (suc k) L = drop-cons L k (later_height 0) (omega arith) ∙ ap (λ t. t ∷ drop (suc k) L) g in
       let ds = map digit_of w in
       let ld : length ds ≡ 2 + level = length-map w digit_of ∙ d.exactly in
       let f : drop (k + 2) ds ≡ get_or ds (k + 2) (digit_of 0) ∷ drop (suc (k + 2)) ds = drop-cons ds (k + 2) (digit_of 0) (omega arith) in
@@ -174,73 +175,47 @@ module _ (rs : List ℕ) (level k : ℕ) (w : List ℕ) (e : Fair rs) (from : 1 
       let ln : length L ≡ level = length-take level (height_levels rs) ∙ omega (arith, levels_ten rs e, d.ten_levels) in
       rw (drop_of_length-le L {i = j} (omega arith)) refl
 
-  pub upto_ended : {h : Height} → level ≤ k → Upto rs level k w h → Upto rs level (k + 1) w h
-  upto_ended {h} l u =
-      record { whole = u.whole ∙ same (height_of h); thick = λ g m. absurd (omega arith); inside = u.inside }
-    where
-      same : (x : Read Stack) → next (k + 2) x (height_rest rs level k w) ≡ next (k + 1 + 2) x (height_rest rs level (k + 1) w)
-      same (ok n) = rw (rest_ended k l n, rest_ended (k + 1) (omega arith) n) refl
-      same (bad p) = refl
+  pub upto_ended : {m : Layers} → level ≤ k → Upto rs level k w (Ok m) → Upto rs level (k + 1) w (Ok m)
+  upto_ended {m} l u =
+      let n : Stack = part m.lowest.above m.lowest.rise m.thickness in
+      record { whole = u.whole ∙ rw (rest_ended k l n, rest_ended (k + 1) (omega arith) n) refl; known = λ o. absurd (omega arith) }
 
-  -- a character before it is not allowed
-  pub upto_bad : {h : Height} → h.good ≡ false → Upto rs level k w h → Upto rs level (k + 1) w h
-  upto_bad {h} b u =
-      let x : BadAt h.place h = record { none = b; place = refl } in
+  -- a digit's layers, or its place, as the whole has them
+  shifted : (b : Bool) (x : Stack) (f : Stack → Read Stack) → shift (k + 2) (next 1 (guard 0 b (ok x)) f) ≡ next (k + 1 + 2) (guard (k + 2) b (ok x)) f
+  shifted true x f = let s : k + 2 + 1 ≡ k + 1 + 2 = omega arith in shift_shift (k + 2) 1 (f x) ∙ ap (λ (y : ℕ). shift y (f x)) s
+  shifted false x f = let z : k + 2 + 0 ≡ k + 2 = omega arith in ap bad z
+
+  pub upto_next : {m : Layers} {h : Result Layers ℕ} → k < level → Upto rs level k w (Ok m) → layers_read h ≡ child_at rs k (get_or w (k + 2) 0) m → IfOk h (KnownLayers rs (k + 1))
+      → Upto rs level (k + 1) w h
+  upto_next {m} l u f g =
+      let a = m.lowest.above in
+      let z = child rs k e from to m (u.known (omega arith)) in
       record {
-        whole = u.whole ∙ ap (λ y. next (k + 2) y (height_rest rs level k w)) (bad_read x)
-            ∙ sym (ap (λ y. next (k + 1 + 2) y (height_rest rs level (k + 1) w)) (bad_read x));
-        thick = λ g m. bad_never x g;
-        inside = bad_never x;
+        whole = u.whole ∙ ap (shift (k + 2)) (rest_step l a m.lowest.rise m.thickness)
+            ∙ shifted (ltb v radix) (part a (m.lowest.rise + v * (m.thickness / radix)) (m.thickness / radix)) (height_rest rs level (k + 1) w)
+            ∙ rw (z, f) refl;
+        known = λ o. g;
       }
 
-  -- where all before it are allowed
-  module _ {h : Height} (l : k < level) (good : h.good ≡ true) (u : Upto rs level k w h) where
-    before : height_read rs level (map digit_of w) ≡ shift (k + 2) (next 1 (guard 0 (ltb v q) (ok (part h.above (h.low + v * (h.thick / q)) (h.thick / q)))) (height_rest rs level (k + 1) w))
-    before =
-        u.whole
-        ∙ ap (λ y. next (k + 2) y (height_rest rs level k w)) (let z : height_of h ≡ ok (part h.above h.low h.thick) = rw good refl in z)
-        ∙ ap (shift (k + 2)) (rest_step l h.above h.low h.thick)
-
-    pub upto_refused : {x : ℕ} {g : Height} → DigitBelow q (get_or w (k + 2) 0) x → q ≤ x → BadAt (k + 2) g → Upto rs level (k + 1) w g
-    upto_refused i m b =
-        let z : k + 2 + 0 ≡ k + 2 = omega arith in
-        record {
-          whole = before ∙ rw (le-ltb v q (omega (arith, i.tells)), bad_read b, z) refl;
-          thick = λ o j. bad_never b o;
-          inside = bad_never b;
-        }
-
-    module _ (t : ℕ) (is : t ≡ thickness_at rs (k + 1)) where
-      cell : q * t ≡ h.thick
-      cell = ap (λ (y : ℕ). q * y) is ∙ thick_step rs k e to ∙ sym (u.thick good (omega arith))
-
-      child : h.thick / q ≡ t
-      child = ap (λ (y : ℕ). y / q) (sym cell) ∙ mul-div_right t {m = q} (later_radix rs k e from to).more
-
-      module _ (x : ℕ) (i : DigitBelow q (get_or w (k + 2) 0) x) (m : x < q) where
-        same : x ≡ v
-        same = omega (arith, i.tells)
-
-        end : h.low + x * t + t ≤ product rs
-        end = let c = cut_end x q t h.thick m cell in omega (arith, u.inside good)
-
-        pub upto_fits : h.low + x * t + t ≤ 2147483648
-        upto_fits = let z = end in omega (arith, product_fits rs e)
-
-        pub upto_read : (p : ℕ) → Upto rs level (k + 1) w (record { good = true; place = p; above = h.above; low = h.low + x * t; thick = t })
-        upto_read p =
-            let s : k + 2 + 1 ≡ k + 1 + 2 = omega arith in
-            let o = height_rest rs level (k + 1) w (part h.above (h.low + x * t) t) in
-            record {
-              whole = before ∙ rw (lt-ltb v q (subst (λ (y : ℕ). y < q) same m), child, ← same) (shift_shift (k + 2) 1 o ∙ ap (λ (y : ℕ). shift y o) s);
-              thick = λ g j. is;
-              inside = λ g. end;
-            }
+-- a level 1 that was read begins it
+pub upto_first : (rs : List ℕ) (level : ℕ) (code : List ℕ) {h : Result Layers ℕ} → Fair rs → Readable level code
+    → layers_read h ≡ all_child (product rs) (get_or rs 0 0) (map digit_of (standing 1 code)) → IfOk h (KnownLayers rs 1) → Upto rs level 1 (standing level code) h
+unfolding height_read follow
+upto_first rs zero code e d f g = absurd (omega (arith, d.some_level))
+upto_first [] (suc l) code e d f g = clash (let t = e.test in cc)
+upto_first (r ∷ rs) (suc l) code {h} e d f g =
+    let w = standing (suc l) code in
+    let m : 3 ≤ length w = omega (arith, (sized d).exactly) in
+    let c : take 3 (map digit_of w) ≡ map digit_of (standing 1 code) = rw (three w m, stands d 0 (omega arith), stands d 1 (omega arith), stands d 2 (omega arith)) refl in
+    record {
+      whole = ap (λ x. next 3 x (height_rest (r ∷ rs) (suc l) 1 w)) (rw c (sym f));
+      known = λ o. g;
+    }
 
 -- all of the code is read
-pub upto_all : (rs : List ℕ) (level : ℕ) (w : List ℕ) {h : Height} → Fair rs → Sized level w → Upto rs level 10 w h → height_of h ≡ height_read rs level (map digit_of w)
-upto_all rs level w {h} e d u = sym (u.whole ∙ go (height_of h))
-  where
-    go : (x : Read Stack) → next 12 x (height_rest rs level 10 w) ≡ x
-    go (ok n) = rw (rest_ended rs level 1 w e (omega arith) (omega arith) d 10 d.ten_levels n) refl
-    go (bad p) = refl
+pub upto_all : (rs : List ℕ) (level : ℕ) (w : List ℕ) {m : Layers} → Fair rs → Sized level w → Upto rs level 10 w (Ok m) → layers_read (Ok m) ≡ height_read rs level (map digit_of w)
+upto_all rs level w {m} e d u = sym (u.whole ∙ rw (rest_ended rs level 1 w e (omega arith) (omega arith) d 10 d.ten_levels (part m.lowest.above m.lowest.rise m.thickness)) refl)
+
+-- or a character of it is not allowed
+pub upto_bad : (rs : List ℕ) (level k : ℕ) (w : List ℕ) {p : ℕ} → Upto rs level k w (Err p) → layers_read (Err p) ≡ height_read rs level (map digit_of w)
+upto_bad rs level k w u = sym u.whole

@@ -1,9 +1,9 @@
 -- What the stores of each level leave in the line, and what they come to.
 -- Assumes nothing.
-use mathlib.Core.Path.{◌≡◌, refl, sym, ◌∙◌, ap}
-use mathlib.Core.Bool.{Bool, true, false, cond, ◌&&◌}
+use mathlib.Core.Path.{◌≡◌, refl, sym, ◌∙◌, ap, subst}
+use mathlib.Core.Bool.{Bool, true, false, cond}
 use mathlib.Core.List.{List, [], ◌∷◌, ◌++◌, map}
-use Prim.Native.Nat.{ℕ, zero, suc, ◌+◌, ◌/◌, ◌%◌, ◌≤◌, ◌<◌}
+use Prim.Native.Nat.{ℕ, zero, suc, ◌+◌, ◌-◌, ◌/◌, ◌%◌, ◌≤◌, ◌<◌}
 use native.Mathlib.Omega.{arith}
 use native.Mathlib.Nat.{div-lt_iff_lt-mul, div-div-eq-div-mul, mod-lt, mul_comm}
 use lib.Dec.{ltb}
@@ -15,11 +15,12 @@ use Rattle.grid.specs.Units.{index}
 use Rattle.grid.specs.Characters.{char_of}
 use Rattle.grid.specs.inner.Standing.{length_in, height_place, spread_back}
 use Rattle.grid.specs.Layers.{product, sign}
-use Rattle.grid.proofs.Cut.{clash, and_true}
+use Rattle.grid.proofs.Cut.{clash}
 use Rattle.grid.proofs.Lists.{get_d_map_at}
 use Rattle.grid.proofs.Standing.{back_length}
+use Rattle.layers.specs.declared.Edition.{Edition}
 use Rattle.layers.specs.inner.Editions.{radices_of}
-use Rattle.layers.specs.inner.Steps.{height_digits, layer_of, Fair, thickness_at, first_height, later_height_at, HeightWritable}
+use Rattle.layers.specs.inner.Steps.{height_digits, layer_of, Fair, thickness_at, first_height, HeightWritable}
 use Rattle.layers.proofs.Places.{place_in}
 use Rattle.layers.proofs.Radices.{edition_fair, first_radix, later_radix, thick_some, thick_step, thick_top, thick_last}
 use Rattle.layers.proofs.Sides.{layer_side, layer_rise, layer_in}
@@ -71,6 +72,10 @@ first_stored a n l {i} {j} {k} {x} {y} {z} e f g u v w =
 
 -- ---- a later level
 
+-- level k + 1, a later one, n of whose cells lie below the layer: its character in a code of a level; none where the code ends before it
+unfoldable pub later_height_at : List ℕ → ℕ → ℕ → ℕ → List ℕ
+later_height_at rs level k n = cond (ltb k level) (char_of (n % get_or rs k 0) ∷ []) []
+
 -- its digit is a code character's
 pub digit_below_law : (rs : List ℕ) (k n : ℕ) → Fair rs → 1 ≤ k → k < 10 → n % get_or rs k 0 < 32
 digit_below_law rs k n e a b =
@@ -88,24 +93,24 @@ one_stored rs level k n l h e s p = rw (e, p, s, lt-ltb k level h) refl
 
 -- ---- a code's height characters
 
-abbrev heights : Bool → ℕ → Bool → ℕ → List ℕ
-heights second level a n = map char_of (height_digits (radices_of second) level (layer_of (product (radices_of second)) a n))
+abbrev heights : Edition → ℕ → Bool → ℕ → List ℕ
+heights edition level a n = map char_of (height_digits (radices_of edition) level (layer_of (product (radices_of edition)) a n))
 
-module _ (second : Bool) (level : ℕ) (a : Bool) (n : ℕ) (l : List ℕ) (h : HeightWritable (radices_of second) level n l) where
+module _ (edition : Edition) (level : ℕ) (a : Bool) (n : ℕ) (l : List ℕ) (h : HeightWritable (radices_of edition) level n l) where
   abbrev rs : List ℕ
-  rs = radices_of second
+  rs = radices_of edition
 
   abbrev z : ℤ
   z = layer_of (product rs) a n
 
   abbrev ws : List ℕ
-  ws = heights second level a n
+  ws = heights edition level a n
 
   inside : index z < product rs
   inside = layer_in (product rs) a n h.rise_in
 
   digits_long : length (height_digits rs level z) ≡ 2 + level
-  digits_long = height_length rs level z (edition_fair second) inside h.some_level h.ten_levels
+  digits_long = height_length rs level z (edition_fair edition) inside h.some_level h.ten_levels
 
   long : length ws ≡ 2 + level
   long = length-map (height_digits rs level z) char_of ∙ digits_long
@@ -125,57 +130,58 @@ module _ (second : Bool) (level : ℕ) (a : Bool) (n : ℕ) (l : List ℕ) (h : 
       go true t =
           let m : k < level = ltb-true k level t in
           let i : k + 1 + 2 ≡ suc (k + 2) = omega arith in
-          let d : get_or (height_digits rs level z) (k + 2) 0 ≡ v % get_or rs k 0 = rw (height_at rs level k z (edition_fair second) inside b m h.ten_levels, layer_rise (product rs) a n h.rise_in, f) refl in
+          let d : get_or (height_digits rs level z) (k + 2) 0 ≡ v % get_or rs k 0 = rw (height_at rs level k z (edition_fair edition) inside b m h.ten_levels, layer_rise (product rs) a n h.rise_in, f) refl in
           rw (i, drop-cons ws (k + 2) 0 (omega (arith, long)), get_d_map_at char_of (height_digits rs level z) (k + 2) (omega (arith, digits_long)), d) refl
       go false t = let m : level ≤ k = ltb-false k level t in rw (none_from (k + 2) (omega arith), none_from (k + 1 + 2) (omega arith)) refl
 
 -- ---- a line in which they are laid down, from the last level on
 
 -- the line l is l₀ with those of the levels from k + 1 on laid down; v cells of level k lie below the rise
-pub record LaidAfter (second : Bool) (level : ℕ) (a : Bool) (n : ℕ) (l₀ : List ℕ) (k v : ℕ) (l : List ℕ) : Type 0 where
-  pub writable : HeightWritable (radices_of second) level n l
-  pub below : Below (radices_of second) k n v
-  pub laid : l ≡ spread_back height_place (k + 2) (drop (k + 2) (heights second level a n)) l₀
+pub record LaidAfter (edition : Edition) (level : ℕ) (a : Bool) (n : ℕ) (l₀ : List ℕ) (k v : ℕ) (l : List ℕ) : Type 0 where
+  pub writable : HeightWritable (radices_of edition) level n l
+  pub below : Below (radices_of edition) k n v
+  pub laid : l ≡ spread_back height_place (k + 2) (drop (k + 2) (heights edition level a n)) l₀
 
-module _ {second : Bool} {level : ℕ} {a : Bool} {n : ℕ} {l₀ : List ℕ} where
+module _ {edition : Edition} {level : ℕ} {a : Bool} {n : ℕ} {l₀ : List ℕ} where
   -- at first none is
-  pub laid_none : HeightWritable (radices_of second) level n l₀ → LaidAfter second level a n l₀ 10 n l₀
+  pub laid_none : HeightWritable (radices_of edition) level n l₀ → LaidAfter edition level a n l₀ 10 n l₀
   laid_none h =
       record {
         writable = h;
-        below = below_last (radices_of second) n (edition_fair second);
-        laid = rw (none_from second level a n l₀ h 12 (omega (arith, h.ten_levels))) refl;
+        below = below_last (radices_of edition) n (edition_fair edition);
+        laid = rw (none_from edition level a n l₀ h 12 (omega (arith, h.ten_levels))) refl;
       }
 
-  -- a call for level k + 1, a later one
-  pub laid_next : (k : ℕ) {v r : ℕ} {l m : List ℕ} → (ltb 0 k && ltb k 10) ≡ true → LaidAfter second level a n l₀ (k + 1) v l
-      → m ≡ spread_back height_place (k + 2) (later_height_at (radices_of second) level k v) l → r ≡ v / get_or (radices_of second) k 0 → LaidAfter second level a n l₀ k r m
-  laid_next k {v} {l = l} {m} t h f g =
-      let p = and_true (ltb 0 k) (ltb k 10) t in
-      let b : 1 ≤ k = ltb-true 0 k p.0 in
-      let c : k < 10 = ltb-true k 10 p.1 in
+  -- a turn for a level after the first
+  pub laid_next : (k : ℕ) {v r : ℕ} {l m : List ℕ} → 1 < k → k ≤ 10 → LaidAfter edition level a n l₀ k v l
+      → m ≡ spread_back height_place (k - 1 + 2) (later_height_at (radices_of edition) level (k - 1) v) l → r ≡ v / get_or (radices_of edition) (k - 1) 0 → LaidAfter edition level a n l₀ (k - 1) r m
+  laid_next k {v} {l = l} {m} b c h f g =
+      let j = k - 1 in
+      let e : k ≡ j + 1 = omega arith in
       let w = h.writable in
-      let s : length m ≡ length l = ap length f ∙ back_length height_place (k + 2) (later_height_at (radices_of second) level k v) l in
+      let s : length m ≡ length l = ap length f ∙ back_length height_place (j + 2) (later_height_at (radices_of edition) level j v) l in
+      let below : Below (radices_of edition) (j + 1) n v = subst (λ (i : ℕ). Below (radices_of edition) i n v) e h.below in
+      let laid : l ≡ spread_back height_place (j + 1 + 2) (drop (j + 1 + 2) (heights edition level a n)) l₀ = rw e at h.laid in
       record {
         writable = record { some_level = w.some_level; ten_levels = w.ten_levels; rise_in = w.rise_in; room = omega (arith, w.room) };
-        below = below_next (radices_of second) k n (edition_fair second) c h.below g;
-        laid = f ∙ ap (spread_back height_place (k + 2) (later_height_at (radices_of second) level k v)) h.laid ∙ added second level a n l w k l₀ b h.below;
+        below = below_next (radices_of edition) j n (edition_fair edition) (omega arith) below g;
+        laid = f ∙ ap (spread_back height_place (j + 2) (later_height_at (radices_of edition) level j v)) laid ∙ added edition level a n l w j l₀ (omega arith) below;
       }
 
   -- level 1 comes last
-  pub first_ready : {v : ℕ} {l : List ℕ} → LaidAfter second level a n l₀ 1 v l → (v < 100) × (length_in true 1 ≤ length l)
+  pub first_ready : {v : ℕ} {l : List ℕ} → LaidAfter edition level a n l₀ 1 v l → (v < 100) × (length_in true 1 ≤ length l)
   unfolding height_place
   first_ready h =
       let w = h.writable in (
-        first_below (radices_of second) n (edition_fair second) w.rise_in h.below,
+        first_below (radices_of edition) n (edition_fair edition) w.rise_in h.below,
         place_in level 2 w.ten_levels w.room (omega (arith, w.some_level)) refl,
       )
 
-  pub laid_all : {v : ℕ} {l m : List ℕ} → LaidAfter second level a n l₀ 1 v l → m ≡ spread_back height_place 0 (first_height a v) l
-      → (m ≡ spread_back height_place 0 (heights second level a n) l₀) × (length m ≡ length l₀)
+  pub laid_all : {v : ℕ} {l m : List ℕ} → LaidAfter edition level a n l₀ 1 v l → m ≡ spread_back height_place 0 (first_height a v) l
+      → (m ≡ spread_back height_place 0 (heights edition level a n) l₀) × (length m ≡ length l₀)
   laid_all {v} {m = m} h f =
       let w = h.writable in
-      let e : m ≡ spread_back height_place 0 (heights second level a n) l₀ =
+      let e : m ≡ spread_back height_place 0 (heights edition level a n) l₀ =
       f ∙ ap (spread_back height_place 0 (first_height a v)) h.laid
-      ∙ sym (ap (λ ws. spread_back height_place 0 ws l₀) (first_height_law (radices_of second) level a n (edition_fair second) w.rise_in w.some_level h.below)) in
-      (e, ap length e ∙ back_length height_place 0 (heights second level a n) l₀)
+      ∙ sym (ap (λ ws. spread_back height_place 0 ws l₀) (first_height_law (radices_of edition) level a n (edition_fair edition) w.rise_in w.some_level h.below)) in
+      (e, ap length e ∙ back_length height_place 0 (heights edition level a n) l₀)

@@ -1,16 +1,14 @@
 -- A layer that is asked for, and the layers that height characters lead to, over any list of radices (document 01, "Layers and the space code").
 -- What `layers` answers.
 -- Assumes nothing.
-use Rattle.std.specs.Prelude.{Bool, List, [], ◌∷◌, map, ℕ, ltb, ℤ, take}
+use Rattle.std.specs.Prelude.{Bool, List, [], ◌∷◌, map, ℕ, ltb, ℤ, Result, Ok, Err, take}
 use Rattle.grid.specs.declared.Refusal.{Refusal}
 use Rattle.grid.specs.Units.{side, index}
 use Rattle.grid.specs.Tree.{Read, ok, bad, follow}
 use Rattle.grid.specs.Answers.{Answer, accepted, refused, refusal, unless}
 use Rattle.grid.specs.Layers.{product, rise, Stack, all, part, Radix, layers}
-use Rattle.layers.specs.declared.AskedLayer.{AskedLayer}
-use Rattle.layers.specs.declared.AskedLayer.TheVariants as layer-as
-use Rattle.layers.specs.declared.LayersRead.{LayersRead}
-use Rattle.layers.specs.declared.LayersRead.TheVariants as layers-as
+use Rattle.layers.specs.declared.Layer.{Layer}
+use Rattle.layers.specs.declared.Layers.{Layers}
 
 -- ---- a layer that is asked for
 
@@ -23,9 +21,9 @@ abbrev pub asked_of : List ℕ → ℤ → Answer (Bool × ℕ)
 asked_of rs z = unless (ltb (index z) (product rs)) outside_layers (accepted (side z, rise (product rs) z))
 
 -- the answer in the paper's numbers: the side and the rise, or the refusal
-abbrev pub layer_asked : AskedLayer → Answer (Bool × ℕ)
-layer_asked (layer-as.At above n) = accepted (above, n)
-layer_asked (layer-as.Refused r) = refused r
+abbrev pub layer_asked : Result Layer Refusal → Answer (Bool × ℕ)
+layer_asked (Ok l) = accepted (l.above, l.rise)
+layer_asked (Err r) = refused r
 
 -- ---- height characters that are read
 
@@ -43,6 +41,6 @@ unfoldable pub height_read : List ℕ → ℕ → List ℕ → Read Stack
 height_read rs l ds = follow (layers (product rs)) (take l (height_levels rs)) all ds
 
 -- the same as the code has it: so many layers from a lowest one on, or the place
-abbrev pub layers_read : LayersRead → Read Stack
-layers_read (layers-as.Found above low thick) = ok (part above low thick)
-layers_read (layers-as.Bad p) = bad p
+abbrev pub layers_read : Result Layers ℕ → Read Stack
+layers_read (Ok m) = ok (part m.lowest.above m.lowest.rise m.thickness)
+layers_read (Err p) = bad p

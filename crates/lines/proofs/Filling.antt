@@ -137,29 +137,22 @@ filled w (b ∷ bs) r = by (leb (w.marked.at + ROOM) (length w.out)) refl (λ k.
         }
     by false e f = record { ready = r; same_line = refl; same_out = refl; forth = omega arith; not_past = omega arith }
 
--- where a block has come to: what is left of it gives what the whole of it was to give
-pub record Going (block : List ℕ) (held : ℕ) (line₀ out₀ : List ℕ) (m : Marks) (line out : List ℕ) : Type 0 where
+-- where a block has come to: i bytes are used up, and what is left gives what the whole of it was to give
+pub record Going (block : List ℕ) (held : ℕ) (line₀ out₀ : List ℕ) (i : ℕ) (m : Marks) (line out : List ℕ) : Type 0 where
+  pub used : m.next ≡ i
   pub ready : MarksWithin m line out
-  pub same_line : length line ≡ length line₀
-  pub same_out : length out ≡ length out₀
   pub rest : fill (work m line out) (drop m.next block) ≡ fill (start held line₀ out₀) block
 
 pub ready_lent : {held : ℕ} {line out : List ℕ} → Lent held line out → MarksWithin (marks 0 held 0) line out
 ready_lent l = record { few = l.few; long = l.long; inside = omega arith }
 
-pub goes_on : {block : List ℕ} {held : ℕ} {m n : Marks} {line₀ out₀ line out line₁ out₁ : List ℕ} → Going block held line₀ out₀ m line out
-    → m.next < length block → m.at + ROOM ≤ length out → work n line₁ out₁ ≡ on_byte (get_or block m.next 0) (work m line out)
-    → Going block held line₀ out₀ n line₁ out₁ × (n.next ≡ m.next + 1)
-goes_on {block} {m = m} {n} {line = line} {out} {line₁} {out₁} g h r e =
-    let s : Stays (work m line out) (work n line₁ out₁) = rw e (stays (get_or block m.next 0) (work m line out) g.ready r) in (
-      record {
-        ready = s.ready;
-        same_line = s.same_line ∙ g.same_line;
-        same_out = s.same_out ∙ g.same_out;
-        rest = rw (e, s.one_on) (sym (fill_byte block m line out h r)) ∙ g.rest;
-      },
-      s.one_on,
-    )
+pub goes_on : {block : List ℕ} {held i : ℕ} {m n : Marks} {line₀ out₀ line out line₁ out₁ : List ℕ} → Going block held line₀ out₀ i m line out
+    → i < length block → m.at + ROOM ≤ length out → work n line₁ out₁ ≡ on_byte (get_or block i 0) (work m line out)
+    → Going block held line₀ out₀ (i + 1) n line₁ out₁
+goes_on {block} {i = i} {m} {n} {line = line} {out} {line₁} {out₁} g h r e =
+    let e' : work n line₁ out₁ ≡ on_byte (get_or block m.next 0) (work m line out) = rw (← g.used) at e in
+    let s : Stays (work m line out) (work n line₁ out₁) = rw e' (stays (get_or block m.next 0) (work m line out) g.ready r) in
+    record { used = omega (arith, s.one_on, g.used); ready = s.ready; rest = rw (e', s.one_on) (sym (fill_byte block m line out (omega (arith, g.used)) r)) ∙ g.rest }
 
 -- how a call of `fill` leaves the buffers that it was lent
 pub lent_filled : (block : List ℕ) {held : ℕ} {line out : List ℕ} → Lent held line out

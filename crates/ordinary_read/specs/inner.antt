@@ -1,2 +1,3 @@
 -- What only the contracts below the calls cite: nothing here has to be believed by a reader of the promises.
 pub mod Reading
+pub mod Given

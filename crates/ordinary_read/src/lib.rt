@@ -1,76 +1,50 @@
 // Reads the rest of an ordinary plane code, after its zone and row (document 01, "Ten levels away from the poles").
-// The reading place is a value: a cursor, and each level read hands back the next one.
+// The reading place is a value: a cursor, and each level read hands back the next one, or the place of a bad character.
 #![tactic(auto)]
 
-ghost use Rattle.std.specs.Prelude.{◌≡◌, true, false, cond, ◌&&◌, ◌+◌, ◌-◌, ◌≤◌, ◌<◌, ltb, length};
-ghost use Rattle.grid.specs.Tree.{bad};
-ghost use Rattle.grid.specs.Answers.{plane_read};
+ghost use Rattle.std.specs.Prelude.{◌≡◌, ◌&&◌, ◌+◌, ◌*◌, ◌≤◌, ◌<◌, ltb, length};
+ghost use Rattle.grid.specs.Units.{HALF, POLAR};
+ghost use Rattle.grid.specs.Answers.{answer_of};
 ghost use Rattle.grid.specs.Splits.{first};
-ghost use Rattle.grid.specs.Plane.{sheet, cell_at};
+ghost use Rattle.grid.specs.Plane.{sheet};
 ghost use Rattle.grid.specs.inner.Roads.{later_read};
-ghost use Rattle.grid.specs.inner.Standing.{level_place, plane_in, HasPlane};
-ghost use Rattle.ordinary_read.specs.inner.Reading.{
-  ordinary_node,
-  ordinary_read,
-  ordinary_answer,
-  Inside,
-  DividedBy,
-  OneCharacter,
-  TwoCharacters,
-  goes_on,
-  Before,
-  AtSheet,
-  Child,
-  Onward,
-  SheetCode,
-};
+ghost use Rattle.grid.specs.inner.Standing.{plane_in};
+ghost use Rattle.ordinary_read.specs.inner.Given.{SheetCode};
 
-use grid::{Cell, PlaneRead, Split};
+use grid::{Cell, Refusal, Split};
 
-// The reading place, and the cell read so far: its quarter, the outward indices where it begins, and its size.
-// Once a character is not allowed the cursor is no longer good, and its place is that character's.
-// The bools stand together to keep it small: with eight bytes more the levels are no longer compiled into their caller.
+// The cell read so far: the outward indices where it begins, its size, and its quarter.
+// A `Result` of it has the place of a bad character as a u32, which lies upon x alone: a usize, upon y too, takes 20 to 70 in 100 instructions more.
 #[derive(Clone, Copy)]
 struct Cursor {
-    good: bool,
-    north: bool,
-    east: bool,
-    place: usize,
     x: u32,
     y: u32,
     width: u32,
     height: u32,
+    north: bool,
+    east: bool,
+    ghost across: { x + width ≤ HALF },
+    ghost along: { y + height ≤ POLAR },
+    ghost some_width: { 0 < width },
+    ghost some_height: { 0 < height },
 }
 
-// Whether the level s has a column and a row. Eight of each are told by one test of both.
+// Whether the level s has a column and a row. Eight of each are told by one test of both: 9 instructions fewer in a code of level 10.
 fn has(s: Split, column: u32, row: u32) -> bool
     ensures { result ≡ (ltb column s.columns && ltb row s.rows) }
 {
-    if s.columns == 8 {
-        if s.rows == 8 {
-            return (column | row) < 8;
-        }
-    }
-    if column < s.columns {
-        row < s.rows
+    if s.columns == 8 && s.rows == 8 {
+        (column | row) < 8
     } else {
-        false
-    }
-}
-
-// Of a column and a row that the level s has not both, the place of the bad character: the column's, which is given, or else the level's last.
-fn bad_place(s: Split, column: u32, place: usize) -> usize
-    requires { 1 ≤ s.length }
-    ensures { result ≡ cond (ltb column s.columns) (s.length - 1) place }
-{
-    if column < s.columns {
-        s.length - 1
-    } else {
-        place
+        column < s.columns && row < s.rows
     }
 }
 
 impl Cursor {
+    ghost use Rattle.grid.specs.Tree.{ok};
+    ghost use Rattle.grid.specs.Plane.{cell_at};
+    ghost use Rattle.ordinary_read.specs.inner.Reading.{ordinary_node, ordinary_read, read_to, DividedBy, LevelNext, AtSheet, Child, Onward};
+
     // At the cell of a zone and a row, after the first four characters.
     fn start(north: bool, zone: u32, row: u32) -> Cursor
         requires { (1 ≤ zone) × (zone ≤ first.columns) × (row < first.rows) }
@@ -80,144 +54,99 @@ impl Cursor {
         let east = 30 < zone;
         let column = if east { zone - 31 } else { 30 - zone };
         Cursor {
-            good: true,
-            north: north,
-            east: east,
-            place: s.length,
             x: column * s.width,
             y: row * s.height,
             width: s.width,
             height: s.height,
+            north,
+            east,
         }
     }
 
-    // At a character that is not allowed.
-    fn stopped(mut self, place: usize) -> Cursor
-        ensures { ordinary_read result ≡ bad place }
-    {
-        self.good = false;
-        self.place = place;
-        self
-    }
-
-    // At the child in a column and a row of the level s; or at the column's character, or the row's, where there is none.
-    fn child(self, s: Split, column: u32, row: u32) -> Cursor
-        requires { Inside self × DividedBy s self }
+    // At the child in a column and a row of the level s; or the place of the column's character, or the row's, where there is none.
+    fn child(self, s: Split, column: u32, row: u32) -> Result<Cursor, u32>
+        requires { DividedBy s self }
         ensures { Child s column row self result }
     {
-        if !has(s, column, row) {
-            return self.stopped(bad_place(s, column, self.place));
+        if has(s, column, row) {
+            return Ok(Cursor {
+                x: self.x + column * s.width,
+                y: self.y + row * s.height,
+                width: s.width,
+                height: s.height,
+                north: self.north,
+                east: self.east,
+            });
         }
-        Cursor {
-            good: true,
-            north: self.north,
-            east: self.east,
-            place: s.length,
-            x: self.x + column * s.width,
-            y: self.y + row * s.height,
-            width: s.width,
-            height: s.height,
-        }
-    }
-
-    // Whether all the characters before were allowed, and the code has those of the level s, which begin at a place.
-    fn goes_on(self, s: Split, at: usize, code: &[u8]) -> bool
-        requires { at + s.characters ≤ 32 }
-        ensures { result ≡ goes_on s at (length code.now) self }
-    {
-        if self.good {
-            at + s.characters <= code.len()
+        if column < s.columns {
+            Err(s.length as u32 - 1)
         } else {
-            false
+            Err((s.length - s.characters) as u32)
         }
     }
 
-    // Past the two characters of the level s, which is level k + 1, column and then row, where the cursor goes on; else where it was.
-    fn pair(self, spaced: bool, k: u32, s: Split, code: &[u8]) -> Cursor
-        requires { Before spaced k s (length code.now) self × TwoCharacters s }
-        ensures { Onward s (level_place spaced k s) code.now self result }
+    // Past level k + 1, where the code has it: of two characters, column and then row, or of one, 2 · row + column. The length of the code is tested,
+    // and not its level, which would have to be kept: 8 in 100 instructions more.
+    fn level<const SPACED: bool>(self, k: u32, code: &[u8]) -> Result<Cursor, u32>
+        requires { (1 ≤ k) × (k < 10) × LevelNext SPACED k (length code.now) self }
+        ensures { Onward SPACED k code.now self result }
     {
-        let at = grid::level_place(spaced, k, s);
-        if !self.goes_on(s, at, code) {
-            return self;
+        let s = grid::split_of(k as usize);
+        let at = grid::level_place(SPACED, k, s);
+        if code.len() < at + s.characters {
+            return Ok(self);
         }
-        let column = grid::digit_below(s.columns, code[at]);
-        let row = grid::digit_below(s.rows, code[at + 1]);
-        self.child(s, column, row)
+        if s.characters == 2 {
+            let column = grid::digit_below(s.columns, code[at]);
+            let row = grid::digit_below(s.rows, code[at + 1]);
+            self.child(s, column, row)
+        } else {
+            let both = grid::digit_below(10, code[at]);
+            self.child(s, both % 2, both / 2)
+        }
     }
 
-    // The same past the one character of the level s, 2 · row + column.
-    fn single(self, spaced: bool, k: u32, s: Split, code: &[u8]) -> Cursor
-        requires { Before spaced k s (length code.now) self × OneCharacter s }
-        ensures { Onward s (level_place spaced k s) code.now self result }
+    // Past all the levels after the first.
+    fn later<const SPACED: bool>(self, code: &[u8]) -> Result<Cursor, u32>
+        requires { LevelNext SPACED 1 (length code.now) self }
+        ensures { ordinary_read result ≡ read_to SPACED code.now 9 (ok (ordinary_node self)) }
     {
-        let at = grid::level_place(spaced, k, s);
-        if !self.goes_on(s, at, code) {
-            return self;
+        let mut cursor = self;
+        for k in 1..10 {
+            cursor = cursor.level::<SPACED>(k, code)?;
         }
-        let both = grid::decimal_value(code[at]);
-        self.child(s, both % 2, both / 2)
+        Ok(cursor)
     }
 
-    // The cell, as a reader hands it back. By itself: built inside `answer` it costs every read five instructions or more.
+    // The cell, as a reader hands it back.
     fn cell(self, level: u32) -> Cell
-        requires { Inside self }
         ensures { result ≡ cell_at level (ordinary_node self) }
     {
         Cell {
-            level: level,
+            level,
             west: grid::least_on(self.east, self.x, self.width),
             south: grid::least_on(self.north, self.y, self.height),
             width: self.width,
             height: self.height,
         }
     }
-
-    // What the reader of a code of the level answers: the cell, or refusal 7 or 20.
-    fn answer(self, spaced: bool, level: u32, code: &[u8]) -> PlaneRead
-        requires { (self.good ≡ true → Inside self) × (self.good ≡ false → HasPlane spaced level code.now self.place) }
-        ensures { plane_read result ≡ ordinary_answer (plane_in spaced level code.now) level (ordinary_read self) }
-    {
-        if !self.good {
-            return PlaneRead::Refused(grid::wrong_in(spaced, code, self.place));
-        }
-        PlaneRead::Found(self.cell(level))
-    }
 }
 
-// The cell of a code of a level in 1 to 10, or the place of its first character that is not allowed.
+// The cell of a code of a level in 1 to 10, or refusal 7 or 20 with the place of its first character that is not allowed. In a space code the
+// plane characters are read where they stand, and a bad one's place is counted among them.
 // The first four characters are read: north or south, a zone of 1 to 60 and one of the 22 rows.
-pub fn rest(level: u32, north: bool, zone: u32, row: u32, code: &[u8]) -> PlaneRead
-    requires { SheetCode false level zone row (length code.now) }
-    ensures { plane_read result ≡ later_read level (sheet north zone row) code.now }
+pub fn rest<const SPACED: bool>(
+    level: u32,
+    north: bool,
+    zone: u32,
+    row: u32,
+    code: &[u8],
+) -> Result<Cell, Refusal>
+    requires { SheetCode SPACED level zone row (length code.now) }
+    ensures { answer_of result ≡ later_read level (sheet north zone row) (plane_in SPACED level code.now) }
 {
-    Cursor::start(north, zone, row)
-        .pair(false, 1, grid::split_of(1), code)
-        .single(false, 2, grid::split_of(2), code)
-        .pair(false, 3, grid::split_of(3), code)
-        .pair(false, 4, grid::split_of(4), code)
-        .single(false, 5, grid::split_of(5), code)
-        .pair(false, 6, grid::split_of(6), code)
-        .pair(false, 7, grid::split_of(7), code)
-        .pair(false, 8, grid::split_of(8), code)
-        .pair(false, 9, grid::split_of(9), code)
-        .answer(false, level, code)
-}
-
-// The same of the plane characters of a space code, read where they stand; a bad one's place is counted among them.
-pub fn rest_in_space(level: u32, north: bool, zone: u32, row: u32, code: &[u8]) -> PlaneRead
-    requires { SheetCode true level zone row (length code.now) }
-    ensures { plane_read result ≡ later_read level (sheet north zone row) (plane_in true level code.now) }
-{
-    Cursor::start(north, zone, row)
-        .pair(true, 1, grid::split_of(1), code)
-        .single(true, 2, grid::split_of(2), code)
-        .pair(true, 3, grid::split_of(3), code)
-        .pair(true, 4, grid::split_of(4), code)
-        .single(true, 5, grid::split_of(5), code)
-        .pair(true, 6, grid::split_of(6), code)
-        .pair(true, 7, grid::split_of(7), code)
-        .pair(true, 8, grid::split_of(8), code)
-        .pair(true, 9, grid::split_of(9), code)
-        .answer(true, level, code)
+    match Cursor::start(north, zone, row).later::<SPACED>(code) {
+        Ok(cursor) => Ok(cursor.cell(level)),
+        Err(place) => Err(grid::wrong_in(SPACED, code, place as usize)),
+    }
 }

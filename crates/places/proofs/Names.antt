@@ -1,43 +1,23 @@
 -- Two names that begin alike, what comes then, and hyphens: what the loops go by.
 -- Assumes nothing.
 use mathlib.Core.Path.{◌≡◌, refl, sym, ◌∙◌, ap, subst}
-use mathlib.Core.Bool.{Bool, true, false, cond, not, ◌&&◌}
-use mathlib.Core.List.{List}
+use mathlib.Core.Bool.{Bool, true, false, not, ◌&&◌}
+use mathlib.Core.List.{List, [], ◌∷◌}
 use Prim.Native.Nat.{ℕ, suc, ◌+◌, ◌≤◌, ◌<◌}
 use native.Mathlib.Numerals.{add-one}
 use native.Mathlib.Omega.{arith}
-use lib.Dec.{ltb, eqb}
+use lib.Dec.{eqb}
 use lib.ListN.{length, get_or, drop, drop_of_length-le}
 use lib.Seq.{drop-cons}
-use borrow.Author.Tests.{lt-ltb, ltb-true, ltb-false, ne_eqb, eq-eqb}
+use borrow.Author.Tests.{lt-ltb, ne_eqb, eq-eqb}
+use Rattle.std.specs.Prelude.{nat_eq, ◌||◌}
+use Rattle.std.specs.List.{list_any}
+use Rattle.std.specs.Ordering.{ordering_index, nat_cmp}
 use Rattle.grid.proofs.Cut.{clash}
 use Rattle.places.specs.Book.{order, unhyphened}
 use Rattle.places.specs.Reading.{Bytes}
-use Rattle.places.specs.inner.Walk.{lesser, four_at, AlikeTo, clear_with, clear_four}
-use Rattle.places.proofs.Ordering.{order_step, order_turned, by_order}
-
--- ---- the lesser of two lengths
-
-pub lesser_within : (m n : ℕ) → (lesser m n ≤ m) × (lesser m n ≤ n)
-lesser_within m n = go (ltb m n) refl
-  where
-    go : (q : Bool) → ltb m n ≡ q → (cond q m n ≤ m) × (cond q m n ≤ n)
-    go true e = (omega arith, omega (arith, ltb-true m n e))
-    go false e = (omega (arith, ltb-false m n e), omega arith)
-
-pub lesser_greatest : (m n k : ℕ) → k ≤ m → k ≤ n → k ≤ lesser m n
-lesser_greatest m n k h l = go (ltb m n)
-  where
-    go : (q : Bool) → k ≤ cond q m n
-    go true = h
-    go false = l
-
-pub lesser_reached : (m n i : ℕ) → lesser m n ≤ i → i < n → m ≤ i
-lesser_reached m n i h l = go (ltb m n) h
-  where
-    go : (q : Bool) → cond q m n ≤ i → m ≤ i
-    go true k = k
-    go false k = absurd (omega (arith, k, l))
+use Rattle.places.specs.inner.Walk.{four_at, AlikeTo}
+use Rattle.places.proofs.Ordering.{order_step, order_turned, by_order, index_less, index_more}
 
 -- ---- the order of what is left from i on
 
@@ -70,36 +50,14 @@ module _ (a : List ℕ) (i : ℕ) where
   pub hyphen_next : i < length a → (get_or a i 0 ≡ 45 → ⊥) → unhyphened (drop i a) ≡ unhyphened (drop (i + 1) a)
   hyphen_next h e = rw (add-one i, drop-cons a i 0 h, ne_eqb (get_or a i 0) 45 e)
 
-  pub hyphen_none : length a ≤ i → unhyphened (drop i a) ≡ true
-  hyphen_none h = rw (drop_of_length-le a h)
-
--- one byte more, and four
-pub hyphen_with : (a : List ℕ) (i j : ℕ) (clear : Bool) → j ≡ i + 1 → i < length a → (clear_with clear (get_or a i 0) && unhyphened (drop j a)) ≡ (clear && unhyphened (drop i a))
-hyphen_with a i j clear u h = rw (u, add-one i, drop-cons a i 0 h) (go (not (eqb (get_or a i 0) 45)) clear (unhyphened (drop (suc i) a)))
+-- whether std's search finds one
+pub hyphen_found : (w : List ℕ) → not (list_any (λ y. nat_eq y 45) w) ≡ unhyphened w
+hyphen_found [] = refl
+hyphen_found (x ∷ w) = go (eqb x 45) (hyphen_found w)
   where
-    go : (p q r : Bool) → ((p && q) && r) ≡ (q && (p && r))
-    go true true r = refl
-    go true false r = refl
-    go false true r = refl
-    go false false r = refl
-
-pub hyphen_four : (a : List ℕ) (i : ℕ) (clear : Bool) → i + 4 ≤ length a → (clear_four clear a i && unhyphened (drop (i + 4) a)) ≡ (clear && unhyphened (drop i a))
-hyphen_four a i clear h =
-    let one = clear_with clear (get_or a i 0) in
-    let two = clear_with one (get_or a (i + 1) 0) in
-    let three = clear_with two (get_or a (i + 2) 0) in
-    hyphen_with a (i + 3) (i + 4) three (omega arith) (omega arith)
-    ∙ hyphen_with a (i + 2) (i + 3) two (omega arith) (omega arith)
-    ∙ hyphen_with a (i + 1) (i + 2) one (omega arith) (omega arith)
-    ∙ hyphen_with a i (i + 1) clear refl (omega arith)
-
--- and where no byte is left it is all of it
-pub hyphen_end : (a : List ℕ) (i : ℕ) (clear : Bool) → length a ≤ i → clear ≡ (clear && unhyphened (drop i a))
-hyphen_end a i clear h = rw (hyphen_none a i h) (go clear)
-  where
-    go : (q : Bool) → q ≡ (q && true)
-    go true = refl
-    go false = refl
+    go : (q : Bool) → not (list_any (λ y. nat_eq y 45) w) ≡ unhyphened w → not (q || list_any (λ y. nat_eq y 45) w) ≡ (not q && unhyphened w)
+    go true e = refl
+    go false e = e
 
 -- ---- names that begin alike
 
@@ -159,3 +117,12 @@ module _ (a b : List ℕ) (i : ℕ) (ones : Bytes a) (others : Bytes b) (h : i +
 
 pub four_more : (a b : List ℕ) (i : ℕ) → Bytes a → Bytes b → i + 4 ≤ length a → i + 4 ≤ length b → four_at b i < four_at a i → order (drop i a) (drop i b) ≡ 2
 four_more a b i ones others h k l = order_turned (drop i a) (drop i b) (four_less b a i others ones k h l)
+
+-- where both have four bytes that differ, their order as numbers is that of the names
+pub fours_decide : (a b : List ℕ) (i : ℕ) → Bytes a → Bytes b → i + 4 ≤ length a → i + 4 ≤ length b → (four_at a i ≡ four_at b i → ⊥)
+    → {x y : ℕ} → x ≡ four_at a i → y ≡ four_at b i → ordering_index (nat_cmp x y) ≡ order (drop i a) (drop i b)
+fours_decide a b i ones others h k n {x} {y} e f =
+    by_order x y
+    (λ l. index_less x y l ∙ sym (four_less a b i ones others h k (omega (arith, e, f, l))))
+    (λ l. index_more x y l ∙ sym (four_more a b i ones others h k (omega (arith, e, f, l))))
+    (λ u. absurd (n (sym e ∙ u ∙ f)))

@@ -5,8 +5,13 @@ use mathlib.Core.Bool.{Bool, true, false}
 use mathlib.Core.List.{List, [], ◌∷◌}
 use Prim.Native.Nat.{ℕ, ◌<◌}
 use native.Mathlib.Omega.{arith}
-use lib.Dec.{ltb}
-use borrow.Author.Tests.{ltb-true, ltb-false, lt-ltb, le-ltb}
+use lib.Dec.{ltb, eqb}
+use borrow.Author.Tests.{ltb-true, ltb-false, lt-ltb, le-ltb, ne_eqb, eq-eqb}
+use Rattle.std.specs.declared.cmp.Ordering.{Ordering}
+use Rattle.std.specs.declared.cmp.Ordering.TheVariants.{Less, Equal, Greater}
+use Rattle.std.specs.Ordering.{ordering_index, nat_cmp, is_ge, is_eq}
+use Rattle.std.specs.Cmp.Lexicographic.{slice_cmp}
+use Rattle.grid.proofs.Cut.{clash}
 use Rattle.places.specs.Book.{order}
 
 pub order_step : (x : ℕ) (a b : List ℕ) → order (x ∷ a) (x ∷ b) ≡ order a b
@@ -58,6 +63,17 @@ order_turned (x ∷ a) (y ∷ b) e =
     let k = heads x y a b in
     by_order y x (λ l. k.high l) (λ l. absurd (omega (arith, h.high l))) (λ u. k.even (sym u) ∙ order_turned a b (sym (h.even u) ∙ e))
 
+-- and the other way round
+pub order_other : (a b : List ℕ) → (order a b ≡ 0 → ⊥) → (order a b ≡ 1 → ⊥) → order b a ≡ 0
+order_other [] [] n m = absurd (m refl)
+order_other [] (y ∷ b) n m = absurd (n refl)
+order_other (x ∷ a) [] n m = refl
+order_other (x ∷ a) (y ∷ b) n m =
+    let h = heads x y a b in
+    let k = heads y x b a in
+    by_order x y (λ l. absurd (n (h.low l))) (λ l. k.low l)
+    (λ u. k.even (sym u) ∙ order_other a b (λ e. n (h.even u ∙ e)) (λ e. m (h.even u ∙ e)))
+
 pub order_trans : (a b c : List ℕ) → order a b ≡ 0 → order b c ≡ 0 → order a c ≡ 0
 order_trans [] [] c e f = f
 order_trans [] (y ∷ b) [] e f = absurd (omega arith)
@@ -78,3 +94,37 @@ order_trans (x ∷ a) (y ∷ b) (z ∷ c) e f =
 pub order_empty : (a : List ℕ) → (a ≡ [] → ⊥) → order [] a ≡ 0
 order_empty [] n = absurd (n refl)
 order_empty (x ∷ a) n = refl
+
+-- std's order of lists of numbers is dictionary order
+pub index_order : (a b : List ℕ) → ordering_index (slice_cmp nat_cmp a b) ≡ order a b
+index_order [] [] = refl
+index_order [] (y ∷ b) = refl
+index_order (x ∷ a) [] = refl
+index_order (x ∷ a) (y ∷ b) =
+    by_order x y
+    (λ l. rw (lt-ltb x y l))
+    (λ l. rw (le-ltb x y (omega arith), ne_eqb x y (omega arith), lt-ltb y x l))
+    (λ u. rw (le-ltb x y (omega arith), eq-eqb x y u, le-ltb y x (omega arith)) (index_order a b))
+
+-- and so of two numbers alone
+pub index_less : (x y : ℕ) → x < y → ordering_index (nat_cmp x y) ≡ 0
+index_less x y l = rw (lt-ltb x y l)
+
+pub index_more : (x y : ℕ) → y < x → ordering_index (nat_cmp x y) ≡ 2
+index_more x y l = rw (le-ltb x y (omega arith), ne_eqb x y (omega arith))
+
+-- the tests of an order
+pub not_below : (o : Ordering) → is_ge o ≡ true → ordering_index o ≡ 0 → ⊥
+not_below Less e f = clash (cc)
+not_below Equal e f = omega arith
+not_below Greater e f = omega arith
+
+pub is_below : (o : Ordering) → is_ge o ≡ false → ordering_index o ≡ 0
+is_below Less e = refl
+is_below Equal e = clash (cc)
+is_below Greater e = clash (cc)
+
+pub is_same : (o : Ordering) → is_eq o ≡ eqb (ordering_index o) 1
+is_same Less = refl
+is_same Equal = refl
+is_same Greater = refl

@@ -1,13 +1,14 @@
 -- What a name leads to in a place book.
 -- Assumes nothing.
-use Rattle.std.specs.Prelude.{cond, List, [], ◌∷◌, ℕ, ◌+◌, eqb, length, take, drop}
+use Rattle.std.specs.Prelude.{cond, List, [], ◌∷◌, ℕ, ◌+◌, eqb, length, take, drop, Result, Ok, Err}
 use Rattle.std.proofs.Math.Option.{Option, some, none}
+use Rattle.grid.specs.declared.Refusal.{Refusal}
 use Rattle.grid.specs.Answers.{Answer, accepted, refused, refusal, and_then}
 use Rattle.places.specs.Book.{Entry, bodies, first_body, order, below}
 use Rattle.places.specs.Reading.{entries_of}
 use Rattle.places.specs.declared.Spot.{Spot}
-use Rattle.places.specs.declared.Found.{Found}
-use Rattle.places.specs.declared.Found.TheVariants.{At, BadlyFormed, NotInBook}
+use Rattle.places.specs.declared.NotFound.{NotFound}
+use Rattle.places.specs.declared.NotFound.TheVariants.{BadlyFormed, NotInBook}
 
 -- the entries whose names are below the asked one
 abbrev pub front : List ℕ → List Entry → List Entry
@@ -50,8 +51,12 @@ part_at s (refused r) = []
 unfoldable pub part_in : List ℕ → List ℕ → List ℕ
 part_in asked s = part_at s (found_in asked s)
 
+-- why a name leads to no entry, in the paper's numbers
+abbrev pub place_refusal : NotFound → Refusal
+place_refusal BadlyFormed = refusal 21 0
+place_refusal NotInBook = refusal 22 0
+
 -- an answer in the paper's numbers
-abbrev pub place_found : Found → Answer Spot
-place_found (At p) = accepted p
-place_found BadlyFormed = refused (refusal 21 0)
-place_found NotInBook = refused (refusal 22 0)
+abbrev pub place_found : Result Spot NotFound → Answer Spot
+place_found (Ok p) = accepted p
+place_found (Err why) = refused (place_refusal why)

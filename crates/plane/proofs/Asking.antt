@@ -1,6 +1,7 @@
 -- What a position writer is asked for: refusals 1, 2 and 3, each exactly when, and what is known of a level and a place that were accepted.
 -- Assumes nothing.
-use Rattle.std.proofs.Common.{◌≡◌, ℕ, ◌<◌, ◌≤◌, Bool, true, false, ◌&&◌, ltb, leb, ℤ, pos, negsuc, sym, refl, ap, ◌∙◌, arith, lit<, ltb-false, ltb-true, le-ltb, lt-ltb, le-leb, leb-true}
+use Rattle.std.proofs.Common.{◌≡◌, ℕ, ◌<◌, ◌≤◌, Bool, true, false, ◌&&◌, ltb, leb, ℤ, pos, negsuc, sym, refl, ap, ap₂, ◌∙◌, to_z-of_z, w64, to_z, of_z, SFits, arith, lit<, ltb-false, ltb-true, le-ltb, lt-ltb, le-leb, leb-true}
+use Rattle.std.specs.Prelude.{Result, Ok, Err}
 use lib.Signed.{lt_z}
 use borrow.Author.Tests.{lt-leb}
 use Rattle.grid.specs.declared.Place.{Place}
@@ -8,17 +9,13 @@ use Rattle.grid.specs.declared.Refusal.{Refusal}
 use Rattle.grid.specs.Units.{HALF, QUARTER, side, index, unit, Square}
 use Rattle.grid.specs.Ends.{unit_in}
 use Rattle.grid.specs.inner.Roads.{square_of}
-use Rattle.grid.specs.Answers.{Answer, accepted, refused, refusal, about, unless}
+use Rattle.grid.specs.Answers.{Answer, accepted, refused, answer_of, refusal, about, unless}
 use Rattle.grid.proofs.Answers.{then_accepted, then_refused, then_from, accepted_inj}
 use Rattle.grid.proofs.Ends.{unit_known}
 use Rattle.grid.proofs.Cut.{clash, and_true}
 use Rattle.grid.proofs.PlaneLaws.{index_unit}
-use Rattle.plane.specs.declared.AskedLevel.{AskedLevel}
-use Rattle.plane.specs.declared.AskedLevel.TheVariants as level
-use Rattle.plane.specs.declared.AskedPosition.{AskedPosition}
-use Rattle.plane.specs.declared.AskedPosition.TheVariants as position
 use Rattle.plane.specs.Text.{level_in, square_in, plane_text_at, plane_text}
-use Rattle.plane.specs.inner.Asking.{level_asked, position_asked}
+use Rattle.plane.specs.inner.Asking.{position_asked}
 
 -- ---- the level
 
@@ -61,7 +58,7 @@ unit_of (pos n) = refl
 unit_of (negsuc n) = refl
 
 -- the place of a position that was accepted
-position_known : (k : ℕ) (longitude latitude : ℤ) (p : Place) → square_in k longitude latitude ≡ accepted (square_of p) → (p.x < HALF) × (p.y < QUARTER)
+pub position_known : (k : ℕ) (longitude latitude : ℤ) (p : Place) → square_in k longitude latitude ≡ accepted (square_of p) → (p.x < HALF) × (p.y < QUARTER)
 unfolding square_in
 position_known k longitude latitude p e =
     let a = then_from (unit_in (about k (refusal 2 0)) HALF false longitude) _ (square_of p) e in
@@ -73,23 +70,30 @@ position_known k longitude latitude p e =
       let h : index b.0 < QUARTER = unit_known (about k (refusal 3 0)) QUARTER true (lit< tt) latitude b.0 b.1 in omega (arith, y, h),
     )
 
+-- the same of the numbers as they are handed over
+pub level_given : {z : ℤ} {a : Answer ℕ} → SFits w64 z → a ≡ level_in (to_z w64 (of_z w64 z)) → level_in z ≡ a
+level_given f e = sym (e ∙ ap level_in (to_z-of_z f))
+
+pub square_given : (k : ℕ) {u v : ℤ} {a : Answer Square} → SFits w64 u → SFits w64 v → a ≡ square_in k (to_z w64 (of_z w64 u)) (to_z w64 (of_z w64 v)) → square_in k u v ≡ a
+square_given k f g e = sym (e ∙ ap₂ (square_in k) (to_z-of_z f) (to_z-of_z g))
+
 -- ---- what was asked for, once its case is known
 
-module _ {t : Answer ℕ} {a : AskedLevel} (f : level_asked a ≡ t) where
-  pub level_at : {l : ℕ} → a ≡ level.At l → t ≡ accepted l
-  level_at e = sym f ∙ ap level_asked e
+module _ {t : Answer ℕ} {a : Result ℕ Refusal} (f : answer_of a ≡ t) where
+  pub level_at : {l : ℕ} → a ≡ Ok l → t ≡ accepted l
+  level_at e = sym f ∙ ap answer_of e
 
-  pub level_refused : {r : Refusal} → a ≡ level.Refused r → t ≡ refused r
-  level_refused e = sym f ∙ ap level_asked e
+  pub level_refused : {r : Refusal} → a ≡ Err r → t ≡ refused r
+  level_refused e = sym f ∙ ap answer_of e
 
-module _ {t : Answer Square} {a : AskedPosition} (f : position_asked a ≡ t) where
-  pub position_at : {p : Place} → a ≡ position.At p → t ≡ accepted (square_of p)
+module _ {t : Answer Square} {a : Result Place Refusal} (f : position_asked a ≡ t) where
+  pub position_at : {p : Place} → a ≡ Ok p → t ≡ accepted (square_of p)
   position_at e = sym f ∙ ap position_asked e
 
-  pub position_refused : {r : Refusal} → a ≡ position.Refused r → t ≡ refused r
+  pub position_refused : {r : Refusal} → a ≡ Err r → t ≡ refused r
   position_refused e = sym f ∙ ap position_asked e
 
-pub position_fits : (k : ℕ) (u v : ℤ) {a : AskedPosition} {p : Place} → position_asked a ≡ square_in k u v → a ≡ position.At p → (p.x < HALF) × (p.y < QUARTER)
+pub position_fits : (k : ℕ) (u v : ℤ) {a : Result Place Refusal} {p : Place} → position_asked a ≡ square_in k u v → a ≡ Ok p → (p.x < HALF) × (p.y < QUARTER)
 position_fits k u v {p = p} f e = position_known k u v p (position_at f e)
 
 -- ---- the text, once the level is known

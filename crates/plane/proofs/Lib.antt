@@ -4,3 +4,4 @@ pub mod Asking
 pub mod Reading
 pub mod Equal
 pub mod Ends
+pub mod Plain

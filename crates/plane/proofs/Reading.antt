@@ -21,7 +21,9 @@ use Rattle.grid.proofs.Halting.{globe_halts}
 use Rattle.grid.proofs.Standing.{plane_long, has_same}
 use Rattle.grid.proofs.Lengths.{total_length}
 use Rattle.grid.proofs.Theorems.{plane_sound}
-use Rattle.plane.specs.inner.Lengths.{or_zero, level_of}
+use Rattle.plane.specs.inner.Lengths.{found, level_of}
+use Rattle.std.specs.Prelude.{Some, None}
+use Rattle.grid.proofs.Cut.{clash}
 -- the grid's laws of how long a code is, and of a place on the globe, passed on
 pub use Rattle.grid.proofs.Lengths.{code_length}
 pub use Rattle.grid.proofs.PlaneLaws.{on_globe}
@@ -36,14 +38,15 @@ pub record Leveled (n l : ℕ) : Type 0 where
   pub high : l ≤ 10
   pub long : n ≡ (split_at (l - 1)).length
 
-pub leveled : (n : ℕ) {l : ℕ} → l ≡ level_of n → (l ≡ 0 → ⊥) → Leveled n l
+pub leveled : (n : ℕ) {l : ℕ} → Some l ≡ level_of n → Leveled n l
 unfolding level_of plane_codes
-leveled n {l} e h = go (place_in n 1 lengths) refl
+leveled n {l} e = go (place_in n 1 lengths) refl
   where
     go : (o : Option ℕ) → place_in n 1 lengths ≡ o → Leveled n l
-    go none p = absurd (h (e ∙ ap or_zero p))
+    go none p = let z : Some l ≡ None = e ∙ ap found p in clash (cc)
     go (some k) p =
-        let q : l ≡ k = e ∙ ap or_zero p in
+        let z : Some l ≡ Some k = e ∙ ap found p in
+        let q : l ≡ k = cc in
         let t = level_length plane_codes plane_sound n k p in
         subst (Leveled n) (sym q) (record { place = p; low = t.0; high = t.1; long = t.2 ∙ total_length k t.0 t.1 })
 
@@ -54,16 +57,13 @@ leveled_at n l a b e =
     record { place = rw (e ∙ sym (total_length l a b)) (length_level plane_codes plane_sound l a b); low = a; high = b; long = e }
 
 module _ (w : List ℕ) where
-  pub read_none : {l : ℕ} → l ≡ level_of (length w) → l ≡ 0 → refused wrong_length ≡ cell_of w
+  pub read_none : None ≡ level_of (length w) → refused wrong_length ≡ cell_of w
   unfolding level_of cell_of read_in plane_codes
-  read_none {l} e h = go (place_in (length w) 1 lengths) refl
+  read_none e = go (place_in (length w) 1 lengths) refl
     where
       go : (o : Option ℕ) → place_in (length w) 1 lengths ≡ o → refused wrong_length ≡ answer_at plane_codes w o
       go none p = refl
-      go (some k) p =
-          let t = level_length plane_codes plane_sound (length w) k p in
-          let z : l ≡ k = e ∙ ap or_zero p in
-          absurd (omega (arith, t.0))
+      go (some k) p = let z : None ≡ Some k = e ∙ ap found p in clash (cc)
 
   -- the first four characters, and the rest
   by_first : (l : ℕ) → Leveled (length w) l → (r : Read Node) → globe_child (take 4 (map digit_of w)) ≡ r

@@ -1,247 +1,238 @@
--- The cursor after one level more, and after the last: it means what was read so far, and its cell lies on the globe.
+-- What the cursor reads of all the levels together: level 2, those after it, and what the reader answers.
 -- Assumes nothing.
-use mathlib.Core.Path.{◌≡◌, refl, sym, ◌∙◌, ap, subst}
-use mathlib.Core.Bool.{Bool, true, false, ◌&&◌}
-use mathlib.Core.List.{List}
-use Prim.Native.Nat.{ℕ, suc, ◌+◌, ◌-◌, ◌*◌, ◌≤◌, ◌<◌, min}
+use mathlib.Core.Path.{◌≡◌, refl, sym, ◌∙◌, ap}
+use mathlib.Core.Bool.{Bool, true, false}
+use mathlib.Core.List.{List, [], ◌∷◌}
+use Prim.Native.Nat.{ℕ, zero, suc, ◌+◌, ◌-◌, ◌*◌, ◌≤◌, ◌<◌, min}
+use native.Mathlib.Numerals.{add-one}
 use native.Mathlib.Omega.{arith}
-use lib.Dec.{ltb, eqb, leb}
-use lib.IntN.{ℤ}
-use lib.ListN.{drop}
-use borrow.Author.Tests.{eqb-true, leb-true, ltb-true}
-use Rattle.grid.specs.declared.Split.{Split}
-use Rattle.grid.specs.Units.{DEGREE, TURN, HALF, QUARTER}
-use Rattle.grid.specs.Tree.{ok, bad, follow}
+use lib.Dec.{ltb, leb, eqb}
+use lib.ListN.{length, get_or, drop}
+use borrow.Author.Tests.{ltb-true, ltb-false, leb-true, eqb-true, eqb-false, le-leb, lt-leb, le-ltb, lt-ltb}
+use Rattle.std.specs.Prelude.{cond, Result, Ok, Err, IsErr, IsErrAnd}
 use Rattle.grid.specs.declared.Cell.{Cell}
-use Rattle.grid.specs.Answers.{Answer}
-use Rattle.grid.specs.Splits.{splits, split_at}
-use Rattle.grid.specs.Plane.{pole, least, longitude_at, least_from_pole, cell_from, cell_at}
-use Rattle.grid.specs.inner.Roads.{later_read}
-use Rattle.grid.specs.inner.Standing.{level_place, length_in, plane_in, HasPlane}
-use Rattle.grid.proofs.Cut.{clash, and_true, below}
-use Rattle.grid.proofs.Lengths.{adds}
-use Rattle.grid.proofs.PlaneLaws.{Good, GoodCell, GoodCap, cell_positive, cap_positive, lim_x, lim_y}
-use Rattle.grid.proofs.Standing.{few, level_room, plane_long}
+use Rattle.grid.specs.declared.Refusal.{Refusal}
+use Rattle.grid.specs.declared.Split.{Split}
+use Rattle.grid.specs.Characters.{digit_of}
+use Rattle.grid.specs.Tree.{Read, ok, bad, shift, follow}
+use Rattle.grid.specs.Answers.{accepted, refused, wrong_character}
+use Rattle.grid.specs.Codes.{answer}
+use Rattle.grid.specs.Splits.{second, splits, split_at}
+use Rattle.grid.specs.Plane.{Node, pole, cell, cap, pole_height, polar_node, pole_child, child_of, cell_at, plane_codes}
+use Rattle.grid.specs.inner.Roads.{place_of, later_read}
+use Rattle.grid.specs.inner.Standing.{level_place, length_in, stands_at, plane_in, HasPlane}
+use Rattle.grid.proofs.Cut.{clash, below}
+use Rattle.grid.proofs.Lists.{map_two}
+use Rattle.grid.proofs.Lengths.{grows}
+use Rattle.grid.proofs.PlaneLaws.{Good, GoodCell, GoodCap, cell_positive, cap_positive}
+use Rattle.grid.proofs.Standing.{level_room, plane_long, has_same}
 use Rattle.grid.proofs.Stopping.{pole_later, later_inside}
 use Rattle.polar_read.specs.declared.Cursor.{Cursor}
-use Rattle.polar_read.specs.inner.Reading.{frame_of, polar_box, node_of, polar_reading, start_of, Round, Moved, level_among, polar_step, so_far, PolarReached, polar_answer}
-use Rattle.polar_read.specs.inner.Room.{OfLevel, HasLevel, PolarDigits, PolarRoom, PolarReady, Whole}
-use Rattle.polar_read.proofs.SoFar.{so_far_on, so_far_bad, so_far_good}
+use Rattle.polar_read.specs.inner.Given.{OfLevel}
+use Rattle.polar_read.specs.inner.Naming.{named_by}
+use Rattle.polar_read.specs.inner.Reading.{frame_of, polar_box, node_of, polar_reading, polar_level_digits, led, polar_level_on, polar_read_to, second_read}
+use Rattle.polar_read.proofs.SoFar.{so_far, first_level, so_far_on, so_far_bad, so_far_good, follows}
 
--- a level's characters follow those before
-follows : (k : ℕ) → 1 ≤ k → k < 10 → (split_at (k - 1)).length + (split_at k).characters ≡ (split_at k).length
-follows k a b = let e : suc (k - 1) ≡ k = omega arith in rw e at (adds (k - 1) (omega arith))
+-- ---- level 2: what two digits name is the grid's reading of them
 
--- the table's columns and rows are no more than a level's characters can name
-digits_at : (k : ℕ) → 1 ≤ k → k < 10 → PolarDigits (split_at k)
-digits_at k a b =
-    let e : k - 1 + 1 ≡ k = omega arith in
-    let t = and_true (leb (split_at (k - 1 + 1)).columns (most (k - 1 + 1))) _ (below fair 9 (k - 1) refl (omega arith)) in
-    let u = and_true (leb (split_at (k - 1 + 1)).ring (most (k - 1 + 1))) _ t.1 in
-    subst (λ (j : ℕ). PolarDigits (split_at j)) e (record { columns = leb-true _ _ t.0; ring = leb-true _ _ u.0; inward = leb-true _ _ u.1 })
+named_child : (n : Bool) (i j : ℕ) {k : ℕ} → ok k ≡ named_by i j → ok (polar_node n k) ≡ shift (place_of second) (pole_child n (i ∷ j ∷ []))
+named_child n i j {k} = go (ltb i 4) refl (ltb j 4) refl
   where
-    most : ℕ → ℕ
-    most i = 10 * (split_at i).characters - 5
+    go : (p : Bool) → ltb i 4 ≡ p → (q : Bool) → ltb j 4 ≡ q → ok k ≡ named_by i j → ok (polar_node n k) ≡ shift (place_of second) (pole_child n (i ∷ j ∷ []))
+    go true e true f t = let u : ok k ≡ ok (4 * i + j) = rw (e, f) at t in let z : k ≡ 4 * i + j = cc in rw (e, f, z) refl
+    go true e false f t = let u : ok k ≡ bad (second.length - 1) = rw (e, f) at t in clash (cc)
+    go false e q f t = let u : ok k ≡ bad (second.length - 2) = rw e at t in clash (cc)
 
-    fair : ℕ → Bool
-    fair i = leb (split_at (i + 1)).columns (most (i + 1)) && (leb (split_at (i + 1)).ring (most (i + 1)) && leb (split_at (i + 1)).inward (most (i + 1)))
+pub second_there : (spaced : Bool) {s : Split} → s ≡ second → {at : ℕ} → at ≡ level_place spaced 1 s → (w : List ℕ) → at + s.characters ≤ length w → (n : Bool) {k : ℕ}
+    → ok k ≡ named_by (digit_of (get_or w at 0)) (digit_of (get_or w (at + 1) 0)) → ok (polar_node n k) ≡ second_read spaced n w
+second_there spaced {s} u {at} z w l n {k} t =
+    let p : at ≡ level_place spaced 1 second = z ∙ ap (level_place spaced 1) u in
+    let h : at + 2 ≤ length w = rw u at l in
+    rw (← p, le-leb (at + 2) (length w) h, map_two digit_of w at h) (named_child n (digit_of (get_or w at 0)) (digit_of (get_or w (at + 1) 0)) t)
 
--- ---- a good cell lies on the globe and is not empty
+-- ---- the loop over the levels
 
-good_whole : (ts : List Split) (c : Cursor) → Round c → Good ts (node_of c) → Whole c
-good_whole ts c r g = go c.cap refl c.disc refl
-  where
-    go : (b : Bool) → c.cap ≡ b → (d : Bool) → c.disc ≡ d → Whole c
-    go true p d q =
-        let a = r p in
-        let k : GoodCap ts c.h = rw p at g in
-        let i : c.disc ≡ true = a.in_disc in
-        record {
-          some_w = omega (arith, a.wide);
-          some_h = cap_positive ts c.h k;
-          high = omega (arith, a.inner, k.fit);
-          in_disc = λ e. omega (arith, a.west, a.wide);
-          in_belt = λ e. clash (cc);
-          round = r;
-        }
-    go false p true q =
-        let k : GoodCell ts (frame_of c) (polar_box c) = rw p at g in
-        let fx : c.x + c.w ≤ lim_x (frame_of c) = k.fit.wide in
-        let fy : c.y + c.h ≤ lim_y (frame_of c) = k.fit.high in
-        let x : c.x + c.w ≤ TURN = rw q at fx in
-        let y : c.y + c.h ≤ DEGREE = rw q at fy in
-        let z = cell_positive ts (frame_of c) (polar_box c) k in
-        record { some_w = z.0; some_h = z.1; high = omega arith; in_disc = λ e. x; in_belt = λ e. clash (cc); round = r }
-    go false p false q =
-        let k : GoodCell ts (frame_of c) (polar_box c) = rw p at g in
-        let fx : c.x + c.w ≤ lim_x (frame_of c) = k.fit.wide in
-        let fy : c.y + c.h ≤ lim_y (frame_of c) = k.fit.high in
-        let x : c.x + c.w ≤ HALF = rw q at fx in
-        let y : c.y + c.h ≤ QUARTER = rw q at fy in
-        let z = cell_positive ts (frame_of c) (polar_box c) k in
-        record { some_w = z.0; some_h = z.1; high = y; in_disc = λ e. clash (cc); in_belt = λ e. x; round = r }
+-- the levels before level k + 1 are read
+abbrev pub Reached : Bool → Bool → List ℕ → ℕ → Node → Type 0
+Reached spaced n w k x = ok x ≡ polar_read_to spaced n w (k - 1)
 
-pub whole : (l : ℕ) (w : List ℕ) (c : Cursor) → 1 ≤ l → l ≤ 10 → PolarReached l w c → c.good ≡ true → Whole c
-whole l w c a b r g =
-    let e : polar_reading c ≡ ok (node_of c) = rw g refl in
-    good_whole (drop l splits) c r.round (so_far_good c.north l w a b (sym r.means ∙ e))
+-- what `?` hands on is the place that it was given
+handed_on : (t : Result Cursor ℕ) {p : ℕ} → IsErr t × IsErrAnd t (λ q. q ≡ p) → polar_reading t ≡ bad p
+handed_on (Ok c) h = absurd h.1
+handed_on (Err q) h = ap bad h.1
 
-wide_of : (c : Cursor) → Whole c → c.x + c.w ≤ TURN
-wide_of c o = go c.disc refl
-  where
-    go : (d : Bool) → c.disc ≡ d → c.x + c.w ≤ TURN
-    go true q = o.in_disc q
-    go false q = omega (arith, o.in_belt q)
+module _ (spaced n : Bool) (w : List ℕ) where
+  -- what one level more comes to
+  onto : (k : ℕ) {x : Node} {r : Read Node} → 2 ≤ k → Reached spaced n w k x → r ≡ polar_level_on spaced w k (ok x) → r ≡ polar_read_to spaced n w k
+  onto zero a h o = absurd (omega arith)
+  onto (suc zero) a h o = absurd (omega arith)
+  onto (suc (suc k)) a h o = let z : suc (suc k) - 1 ≡ suc k = omega arith in o ∙ ap (polar_level_on spaced w (suc (suc k))) (rw z at h)
 
--- ---- one level more
+  pub begun : {r : Result Cursor ℕ} {c : Cursor} → polar_reading r ≡ second_read spaced n w → r ≡ Ok c → Reached spaced n w 2 (node_of c)
+  begun e q = sym (ap polar_reading q) ∙ e
 
-module _ {spaced : Bool} {level k n : ℕ} {s : Split} {w : List ℕ} {c : Cursor} (r : PolarReady spaced level k s n w c) where
+  pub more : {k : ℕ} {x : Node} {m : Cursor} {r : Result Cursor ℕ} → 2 ≤ k → Reached spaced n w k x → polar_reading r ≡ polar_level_on spaced w k (ok x) → r ≡ Ok m → Reached spaced n w (k + 1) (node_of m)
+  more {k} a h o q =
+      let z : k + 1 - 1 ≡ k = omega arith in
+      rw z (sym (ap polar_reading q) ∙ onto k a h o)
+
+  -- past a bad character nothing is read
+  still_bad : (j k : ℕ) {p : ℕ} → 1 ≤ k → polar_read_to spaced n w k ≡ bad p → polar_read_to spaced n w (j + k) ≡ bad p
+  still_bad zero k a e = let z : 0 + k ≡ k = omega arith in rw z e
+  still_bad (suc j) zero a e = absurd (omega arith)
+  still_bad (suc j) (suc k) {p} a e =
+      let z : suc j + suc k ≡ suc (suc (j + k)) = omega arith in
+      let y : j + suc k ≡ suc (j + k) = omega arith in
+      rw z (ap (polar_level_on spaced w (suc (suc (j + k)))) (rw y at (still_bad j (suc k) a e)) ∙ bad_on (suc (suc (j + k))))
+    where
+      bad_on : (i : ℕ) → polar_level_on spaced w i (bad p) ≡ bad p
+      bad_on i = go (leb (level_place spaced i (split_at i) + (split_at i).characters) (length w))
+        where
+          go : (q : Bool) → ◌≡◌ {A = Read Node} (cond q (bad p) (bad p)) (bad p)
+          go true = refl
+          go false = refl
+
+  pub stopped : {k : ℕ} {x : Node} {r : Result Cursor ℕ} (t : Result Cursor ℕ) {p : ℕ} → 2 ≤ k → k < 10 → Reached spaced n w k x → polar_reading r ≡ polar_level_on spaced w k (ok x) → r ≡ Err p
+      → IsErr t × IsErrAnd t (λ q. q ≡ p) → polar_reading t ≡ polar_read_to spaced n w 9
+  stopped {k} t a l h o q e =
+      let z : 9 - k + k ≡ 9 = omega arith in
+      handed_on t e ∙ sym (rw z at (still_bad (9 - k) k (omega arith) (sym (onto k a h o) ∙ ap polar_reading q)))
+
+-- ---- the levels from one on, read from a code of a level
+
+module _ {spaced : Bool} {level : ℕ} (w : List ℕ) (o : OfLevel spaced level w) where
   abbrev v : List ℕ
   v = plane_in spaced level w
 
-  -- the code has no such level
-  pub level_past : level ≤ k → PolarReached (min (k + 1) level) v c
-  level_past h =
-      let e : min (k + 1) level ≡ min k level = omega arith in
-      subst (λ (l : ℕ). PolarReached l v c) (sym e) r.so_far_here
-
-  module _ (h : k < level) where
-    at_level : PolarReached k v c
-    at_level = let e : min k level ≡ k = omega arith in subst (λ (l : ℕ). PolarReached l v c) e r.so_far_here
-
-    to_next : {m : Cursor} → PolarReached (k + 1) v m → PolarReached (min (k + 1) level) v m
-    to_next {m} q = let e : min (k + 1) level ≡ k + 1 = omega arith in subst (λ (l : ℕ). PolarReached l v m) (sym e) q
-
-    -- the code has its characters
-    pub level_there : HasLevel spaced k s n w
-    level_there =
-        let g : level_place spaced k s + s.characters ≤ length_in spaced level = rw r.table (level_room spaced level k h r.long.most) in
-        record { last = r.last; size = r.size; room = omega (arith, g, r.size, r.long.long) }
-
-    -- a character before was not allowed
-    pub level_bad : c.good ≡ false → PolarReached (min (k + 1) level) v c
-    level_bad g =
-        let e : polar_reading c ≡ bad c.place = rw g refl in
-        let b : so_far c.north k v ≡ bad c.place = sym at_level.means ∙ e in
-        to_next
-        (record {
-          means = e ∙ sym (so_far_bad c.north k v r.later r.last b);
-          placed = λ t. clash (cc);
-          sided = refl;
-          round = at_level.round;
-        })
-
-    module _ (g : c.good ≡ true) where
-      starts : c.place + s.characters ≡ (split_at k).length
-      starts = rw (at_level.placed g, r.table) (follows k r.later r.last)
-
-      pub level_cell : PolarRoom c s
-      level_cell =
-          let o = whole k v c r.later (omega (arith, r.last)) at_level g in
-          let z : s.length ≡ (split_at k).length = ap (λ (t : Split). t.length) r.table in
-          let d = subst PolarDigits (sym r.table) (digits_at k r.later r.last) in
-          record { good = g; next = starts ∙ sym z; near = omega (arith, few k r.last); digits = d; wide = wide_of c o; high = o.high; round = at_level.round }
-
-      pub level_read : {m : Cursor} → Moved c s (polar_step c s (level_among spaced k s w)) m → PolarReached (min (k + 1) level) v m × (m.north ≡ c.north)
-      unfolding polar_step
-      level_read {m} q =
-          let e : polar_reading c ≡ ok (node_of c) = rw g refl in
-          let b : so_far c.north k v ≡ ok (node_of c) = sym at_level.means ∙ e in
-          let z : k + 1 - 1 ≡ k = omega arith in (
-            to_next (record {
-              means = q.means ∙ rw (q.sided, so_far_on r.long c.north k r.later h b, at_level.placed g, r.table) refl;
-              placed = λ t. q.placed t ∙ starts ∙ ap (λ (j : ℕ). (split_at j).length) (sym z);
-              sided = refl;
-              round = q.round;
-            }),
-            q.sided,
-          )
-
--- what a step asks, at a level that a literal names
-pub ready : {spaced : Bool} {level n : ℕ} {s : Split} {w : List ℕ} {c : Cursor} (k : ℕ) → (leb 1 k && (ltb k 10 && eqb (split_at k).characters n)) ≡ true
-    → OfLevel spaced level w → s ≡ split_at k → PolarReached (min k level) (plane_in spaced level w) c → PolarReady spaced level k s n w c
-ready {n = n} k t a e r =
-    let u = and_true (leb 1 k) _ t in
-    let v = and_true (ltb k 10) _ u.1 in
-    record {
-      later = leb-true 1 k u.0;
-      last = ltb-true k 10 v.0;
-      long = a;
-      table = e;
-      size = ap (λ (x : Split). x.characters) e ∙ eqb-true _ n v.1;
-      so_far_here = r;
-    }
-
--- ---- the cell that is handed back
-
-module _ (l : ℕ) (c : Cursor) (o : Whole c) {a b a' b' : ℤ} where
-  pub cell_disc : c.disc ≡ true → a' ≡ a → a ≡ longitude_at c.x → b' ≡ b → b ≡ least_from_pole c.north c.y c.h
-      → cell_from l a' b' c.w c.h ≡ cell_at l (node_of c)
-  cell_disc d ea ew eb es = rw (ea, ew, eb, es) (go c.cap refl)
+  -- codes of a level, spaced and not, end before the finer levels
+  past : (k : ℕ) → 1 ≤ k → k < 10 → level ≤ k → (q : Bool) → length_in q level < level_place q k (split_at k) + (split_at k).characters
+  past k a b l q = go q (grows (level - 1) (k - 1) (omega (arith, o.some)) (omega arith))
     where
-      go : (t : Bool) → c.cap ≡ t → cell_from l (longitude_at c.x) (least_from_pole c.north c.y c.h) c.w c.h ≡ cell_at l (node_of c)
-      go true p = let r = o.round p in rw (p, r.west, r.wide, r.inner) refl
-      go false p = rw (p, d) refl
+      some : 1 ≤ (split_at k).characters
+      some = leb-true _ _ (below (λ i. leb 1 (split_at i).characters) 10 k refl b)
 
-  pub cell_belt : c.disc ≡ false → a' ≡ a → a ≡ least c.east c.x c.w → b' ≡ b → b ≡ least c.north c.y c.h
-      → cell_from l a' b' c.w c.h ≡ cell_at l (node_of c)
-  cell_belt d ea ew eb es = rw (ea, ew, eb, es) (go c.cap refl)
+      go : (q : Bool) → (split_at (level - 1)).length ≤ (split_at (k - 1)).length → length_in q level < level_place q k (split_at k) + (split_at k).characters
+      go true f = omega (arith, follows k a b, some)
+      go false f = omega (arith, follows k a b, some)
+
+  -- so a test of their length tells whether they have a level
+  has : (k : ℕ) → 1 ≤ k → k < 10 → leb (level_place spaced k (split_at k) + (split_at k).characters) (length w) ≡ ltb k level
+  has k a b = rw o.long (go (ltb k level) refl)
     where
-      go : (t : Bool) → c.cap ≡ t → cell_from l (least c.east c.x c.w) (least c.north c.y c.h) c.w c.h ≡ cell_at l (node_of c)
-      go true p = let q : c.disc ≡ true = (o.round p).in_disc in clash (cc)
-      go false p = rw (p, d) refl
+      go : (t : Bool) → ltb k level ≡ t → leb (level_place spaced k (split_at k) + (split_at k).characters) (length_in spaced level) ≡ t
+      go true t = le-leb _ _ (level_room spaced level k (ltb-true k level t) o.most)
+      go false t = lt-leb _ _ (past k a b (ltb-false k level t) spaced)
 
--- ---- the answer
+  one_more : (n : Bool) (k : ℕ) → 1 ≤ k → k < 10 → {r : Read Node} → r ≡ so_far n (min k level) v → polar_level_on spaced w k r ≡ so_far n (min (k + 1) level) v
+  one_more n k a b {r} e = go (ltb k level) refl
+    where
+      there : k < level → (q : Read Node) → so_far n k v ≡ q → led (split_at k) (level_place spaced k (split_at k)) w q ≡ so_far n (k + 1) v
+      there h (ok m) f =
+          let z : place_of (split_at k) ≡ (split_at (k - 1)).length = omega (arith, follows k a b) in
+          ap (λ (i : ℕ). shift i (child_of (split_at k) m (polar_level_digits (split_at k) (level_place spaced k (split_at k)) w))) z ∙ sym (so_far_on o n k a h f)
+      there h (bad p) f = sym (so_far_bad n k v a b f)
 
-rest_is : (l : ℕ) (n : Bool) (w : List ℕ) → polar_answer w l (so_far n l w) ≡ later_read l (pole n) w
-unfolding later_read polar_answer so_far
-rest_is l n w = refl
+      go : (t : Bool) → ltb k level ≡ t → polar_level_on spaced w k r ≡ so_far n (min (k + 1) level) v
+      go true t =
+          let h : k < level = ltb-true k level t in
+          let x : min k level ≡ k = omega arith in
+          let y : min (k + 1) level ≡ k + 1 = omega arith in
+          let f : so_far n k v ≡ r = sym (rw x at e) in
+          rw (has k a b, t, y) (there h r f)
+      go false t =
+          let h : level ≤ k = ltb-false k level t in
+          let x : min k level ≡ level = omega arith in
+          let y : min (k + 1) level ≡ level = omega arith in
+          rw (has k a b, t, y) (rw x at e)
 
--- ---- N000 and S000
+  -- a code of level 2 or more: what is read of it, as far as level k + 1
+  all_levels : (n : Bool) → 1 < level → (k : ℕ) → 1 ≤ k → k ≤ 9 → polar_read_to spaced n w k ≡ so_far n (min (k + 1) level) v
+  all_levels n h zero a b = absurd (omega arith)
+  all_levels n h (suc zero) a b =
+      let t : leb (level_place spaced 1 second + second.characters) (length w) ≡ true = has 1 (omega arith) (omega arith) ∙ lt-ltb 1 level h in
+      let f : second_read spaced n w ≡ polar_level_on spaced w 1 (ok (pole n)) = rw t refl in
+      let x : min 1 level ≡ 1 = omega arith in
+      f ∙ one_more n 1 (omega arith) (omega arith) {r = ok (pole n)} (rw x (sym (first_level n v)))
+  all_levels n h (suc (suc k)) a b =
+      let e : polar_read_to spaced n w (suc k) ≡ so_far n (min (suc (suc k)) level) v = rw (add-one (suc k)) at (all_levels n h (suc k) (omega arith) (omega arith)) in
+      one_more n (suc (suc k)) (omega arith) (omega arith) e
 
-module _ {n : Bool} {c : Cursor} (e : c ≡ start_of n) where
-  pub start_whole : Whole c
-  start_whole =
-      rw e
-      (record {
-        some_w = omega arith;
-        some_h = omega arith;
-        high = omega arith;
-        in_disc = λ g. omega arith;
-        in_belt = λ g. clash (cc);
-        round = λ g. record { in_disc = refl; west = refl; wide = refl; inner = refl };
+  -- a code of level 1 has none of them
+  none_read : (n : Bool) → level ≡ 1 → (k : ℕ) → k ≤ 9 → polar_read_to spaced n w k ≡ ok (cap n pole_height)
+  none_read n z zero b = refl
+  none_read n z (suc zero) b =
+      let t : leb (level_place spaced 1 second + second.characters) (length w) ≡ false = has 1 (omega arith) (omega arith) ∙ rw z refl in
+      rw t refl
+  none_read n z (suc (suc k)) b =
+      let t : ltb (suc (suc k)) level ≡ false = rw z (le-ltb (suc (suc k)) 1 (omega arith)) in
+      let e : polar_level_on spaced w (suc (suc k)) (polar_read_to spaced n w (suc k)) ≡ polar_read_to spaced n w (suc k) = rw (has (suc (suc k)) (omega arith) (omega arith), t) refl in
+      e ∙ none_read n z (suc k) (omega arith)
+
+-- ---- all that the reader answers
+
+-- a cell that can be divided further is not empty
+good_some : (ts : List Split) (m : Cursor) → Good ts (node_of m) → (0 < m.w) × (0 < m.h)
+good_some ts m g = go m.cap refl
+  where
+    go : (b : Bool) → m.cap ≡ b → (0 < m.w) × (0 < m.h)
+    go true p = let k : GoodCap ts m.h = rw p at g in (omega (arith, (m.round p).2), cap_positive ts m.h k)
+    go false p = let k : GoodCell ts (frame_of m) (polar_box m) = rw p at g in cell_positive ts (frame_of m) (polar_box m) k
+
+-- nor is N000 or S000
+pole_some : {n : Bool} (m : Cursor) → node_of m ≡ cap n pole_height → (0 < m.w) × (0 < m.h)
+pole_some {n} m e = go m.cap refl
+  where
+    go : (b : Bool) → m.cap ≡ b → (0 < m.w) × (0 < m.h)
+    go true p = let k : cap m.north m.h ≡ cap n pole_height = rw p at e in let h : m.h ≡ pole_height = cc in (omega (arith, (m.round p).2), omega arith)
+    go false p = let k : cell (frame_of m) (polar_box m) ≡ cap n pole_height = rw p at e in clash (cc)
+
+module _ {spaced : Bool} {level : ℕ} {w : List ℕ} (o : OfLevel spaced level w) {n : Bool} (c : Cursor) (side : c.north ≡ n) (r : Result Cursor ℕ) (read : polar_reading r ≡ polar_read_to spaced c.north w 9) where
+  -- a code of level 1 is read as a cap of two degrees
+  flat : level ≡ 1 → polar_reading r ≡ ok (cap n pole_height)
+  flat z = rw side at read ∙ none_read w o n z 9 (omega arith)
+
+  -- any other as the rules read it
+  deep : 1 < level → polar_reading r ≡ so_far n level (plane_in spaced level w)
+  deep h = let x : min (9 + 1) level ≡ level = omega (arith, o.most) in rw side at read ∙ rw x at (all_levels w o n h 9 (omega arith) (omega arith))
+
+  by_level : {A : Type 0} → (level ≡ 1 → A) → (1 < level → A) → A
+  by_level {A} f g = go (eqb level 1) refl
+    where
+      go : (b : Bool) → eqb level 1 ≡ b → A
+      go true e = f (eqb-true level 1 e)
+      go false e = let k : level ≡ 1 → ⊥ = eqb-false level 1 e in g (omega (arith, o.some))
+
+  pub some_cell : {m : Cursor} → r ≡ Ok m → (0 < m.w) × (0 < m.h)
+  some_cell {m} q =
+      by_level
+      (λ z. let e : ok (node_of m) ≡ ok (cap n pole_height) = sym (ap polar_reading q) ∙ flat z in let g : node_of m ≡ cap n pole_height = cc in pole_some {n = n} m g)
+      (λ h. good_some (drop level splits) m (so_far_good n level (plane_in spaced level w) o.some o.most (sym (deep h) ∙ ap polar_reading q)))
+
+  pub cell_found : {m : Cursor} {d : Cell} → r ≡ Ok m → d ≡ cell_at level (node_of m) → accepted d ≡ later_read level (pole n) (plane_in spaced level w)
+  unfolding plane_codes later_read so_far follow
+  cell_found {m} {d} q e =
+      by_level
+      (λ z. let f : ok (node_of m) ≡ ok (cap n pole_height) = sym (ap polar_reading q) ∙ flat z in
+      let g : node_of m ≡ cap n pole_height = cc in ap accepted (e ∙ ap (cell_at level) g) ∙ rw z refl)
+      (λ h. ap accepted e ∙ ap (answer plane_codes (plane_in spaced level w) level) (sym (ap polar_reading q) ∙ deep h))
+
+  -- a bad character is one of the code
+  pub stopped_in : {p : ℕ} → r ≡ Err p → HasPlane spaced level w p
+  unfolding so_far
+  stopped_in {p} q =
+      by_level
+      (λ z. let e : bad p ≡ ok (cap n pole_height) = sym (ap polar_reading q) ∙ flat z in clash (cc))
+      (λ h.
+      record {
+        some = o.some;
+        most = o.most;
+        long = o.long;
+        character = later_inside level o.most (pole n) (plane_in spaced level w) p (pole_later level o.most n) (plane_long level w o.some o.most spaced o.long) (sym (deep h) ∙ ap polar_reading q);
       })
 
-  -- what answering asks; the cursor is good
-  pub start_asks : {spaced : Bool} {level : ℕ} {w : List ℕ} → (c.good ≡ true → Whole c) × (c.good ≡ false → HasPlane spaced level w c.place)
-  start_asks = (λ g. start_whole, λ g. let t : c.good ≡ true = ap (λ (b : Cursor). b.good) e in clash (cc))
-
-  pub start_answers : {l : ℕ} (w : List ℕ) {a : Answer Cell} → l ≡ 1 → a ≡ polar_answer w l (polar_reading c) → a ≡ later_read l (pole n) w
-  unfolding so_far follow polar_answer
-  start_answers {l} w z q = q ∙ rw (e, z) (rest_is 1 n w)
-
--- ---- the last cursor
-
-module _ {spaced : Bool} {level : ℕ} {w : List ℕ} (o : OfLevel spaced level w) {c : Cursor} (r : PolarReached (min 10 level) (plane_in spaced level w) c) where
-  abbrev code : List ℕ
-  code = plane_in spaced level w
-
-  -- it has read every level of the code
-  all_read : PolarReached level code c
-  all_read = let e : min 10 level ≡ level = omega (arith, o.most) in subst (λ (l : ℕ). PolarReached l code c) e r
-
-  -- a bad character's place lies in the code
-  last_has : c.good ≡ false → HasPlane spaced level w c.place
-  unfolding so_far
-  last_has g =
-      let e : so_far c.north level code ≡ bad c.place = sym all_read.means ∙ rw g refl in
-      let i = later_inside level o.most (pole c.north) code c.place (pole_later level o.most c.north) (plane_long level w o.some o.most spaced o.long) e in
-      record { some = o.some; most = o.most; long = o.long; character = i }
-
-  -- what answering asks
-  pub last_asks : (c.good ≡ true → Whole c) × (c.good ≡ false → HasPlane spaced level w c.place)
-  last_asks = (whole level code c o.some o.most all_read, last_has)
-
-  -- its answer is the whole reading's
-  pub answers : {n : Bool} {a : Answer Cell} → a ≡ polar_answer code level (polar_reading c) → c.north ≡ n → a ≡ later_read level (pole n) code
-  answers {n} e q = e ∙ ap (polar_answer code level) (all_read.means ∙ rw q refl) ∙ rest_is level n code
+  pub bad_found : {p : ℕ} {x : Refusal} → r ≡ Err p → x ≡ wrong_character p (get_or w (stands_at spaced p) 0) → refused x ≡ later_read level (pole n) (plane_in spaced level w)
+  unfolding plane_codes later_read so_far
+  bad_found {p} q e =
+      by_level
+      (λ z. let f : bad p ≡ ok (cap n pole_height) = sym (ap polar_reading q) ∙ flat z in clash (cc))
+      (λ h. ap refused (e ∙ ap (wrong_character p) (sym (has_same (stopped_in q)))) ∙ ap (answer plane_codes (plane_in spaced level w) level) (sym (ap polar_reading q) ∙ deep h))

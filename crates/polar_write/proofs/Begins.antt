@@ -2,10 +2,11 @@
 -- Assumes nothing.
 use mathlib.Core.Path.{◌≡◌, refl, subst}
 use mathlib.Core.Bool.{Bool, true, false, ◌&&◌}
-use Prim.Native.Nat.{ℕ, ◌+◌, ◌-◌, ◌/◌, ◌%◌, ◌≤◌, ◌<◌}
+use Prim.Native.Nat.{ℕ, ◌+◌, ◌-◌, ◌/◌, ◌≤◌, ◌<◌}
 use native.Mathlib.Omega.{arith}
 use lib.Dec.{ltb, leb, eqb}
 use borrow.Author.Tests.{ltb-true, leb-true, eqb-true, lt-ltb, le-ltb, le-leb, ne_eqb}
+use Rattle.grid.specs.declared.Digits.{Digits}
 use Rattle.grid.specs.declared.Place.{Place}
 use Rattle.grid.specs.declared.PolarCell.{PolarCell}
 use Rattle.grid.specs.Units.{TURN, HALF, QUARTER, POLAR, DISC, unit, eastward, Square}
@@ -17,7 +18,8 @@ use Rattle.grid.proofs.Step.{In, InCell, eastward_below}
 use Rattle.grid.proofs.Poles.{placed, named_only, node_in}
 use Rattle.grid.proofs.PlaneLaws.{index_unit, side_unit}
 use Rattle.polar_write.specs.declared.Spot.{Spot}
-use Rattle.polar_write.specs.inner.Spots.{spot, step, spot_in, Polar, Lies, LiesInColumn, Begun}
+use Rattle.polar_write.specs.declared.Spot.TheVariants as spot
+use Rattle.polar_write.specs.inner.Spots.{spot_in, polar_digits, Polar, Lies, LiesInColumn, Begun}
 use Rattle.polar_write.proofs.Written.{polar_on}
 
 -- ---- the cell k has the place, and so it is its cell
@@ -32,8 +34,8 @@ module _ {k : ℕ} {p : Place} (L : Lies k p) where
   inside : In (polar_node p.north k) s
   inside = node_in p.north s k (polar_on p L.polar).0 (side_unit p.north p.y) L.few L.holds
 
-  begun : {q : Spot} → q ≡ spot_in (polar_node p.north k) s → Begun p (step 4 (k / 4) (k % 4) q)
-  begun z = record { first = rw is_named refl; second = rw is_named refl; stands = rw is_named z }
+  begun : {q : Spot} {d : Digits} → d ≡ polar_digits k → q ≡ spot_in (polar_node p.north k) s → Begun p (record { rest = q; digits = d })
+  begun e z = record { digits = rw is_named e; stands = rw is_named z }
 
   -- a belt cell
   module _ (m : 4 ≤ k) {c : PolarCell} (e : c ≡ polar_cell_at k) where
@@ -52,9 +54,9 @@ module _ {k : ℕ} {p : Place} (L : Lies k p) where
     pub belt_y : c.low ≤ p.y
     belt_y = rw (index_unit p.north p.y) at in_box.inside.yl
 
-    pub belt_begun : {x h : ℕ} → x ≡ (belt_box c.west 0).x → h ≡ polar_height → Begun p (step 4 (k / 4) (k % 4) (spot false ((p.x - x) / (SIXTH / h)) (p.y - c.low)))
+    pub belt_begun : {x : ℕ} {d : Digits} → x ≡ (belt_box c.west 0).x → d ≡ polar_digits k → Begun p (record { rest = spot.Cell ((p.x - x) / (SIXTH / polar_height)) (p.y - c.low); digits = d })
     unfolding spot_in
-    belt_begun f g = begun (rw (belt_node, index_unit p.east p.x, index_unit p.north p.y, f, g) refl)
+    belt_begun f g = begun g (rw (belt_node, index_unit p.east p.x, index_unit p.north p.y, f) refl)
 
   -- another cell of the disc
   module _ (m : 0 < k) (l : k < 4) {c : PolarCell} (e : c ≡ polar_cell_at k) where
@@ -75,16 +77,16 @@ module _ {k : ℕ} {p : Place} (L : Lies k p) where
         let y : QUARTER - c.low - polar_height ≤ QUARTER - 1 - p.y = rw (index_unit p.north p.y) at in_ring.inside.yl in
         omega (arith, y, disc_low, L.polar.y_inside)
 
-    pub disc_begun : {x w h : ℕ} → x ≡ eastward (unit p.east p.x) → w ≡ TURN / second.ring → h ≡ polar_height
-        → Begun p (step 4 (k / 4) (k % 4) (spot false ((x - c.west) / (w / h)) (c.low + h - 1 - p.y)))
+    pub disc_begun : {x : ℕ} {d : Digits} → x ≡ eastward (unit p.east p.x) → d ≡ polar_digits k
+        → Begun p (record { rest = spot.Cell ((x - c.west) / (TURN / second.ring / polar_height)) (c.low + polar_height - 1 - p.y); digits = d })
     unfolding spot_in
-    disc_begun f z g =
+    disc_begun f g =
         let y : DISC + polar_height - 1 - p.y ≡ QUARTER - 1 - p.y - (QUARTER - DISC - polar_height) = omega arith in
-        begun (rw (disc_node, index_unit p.north p.y, f, z, g, disc_low, y) refl)
+        begun g (rw (disc_node, index_unit p.north p.y, f, disc_low, y) refl)
 
-pub cap_begun : {p : Place} {x : ℕ} → Lies 0 p → x ≡ eastward (unit p.east p.x) → Begun p (step 4 0 0 (spot true x (QUARTER - 1 - p.y)))
+pub cap_begun : {p : Place} {x : ℕ} {d : Digits} → Lies 0 p → x ≡ eastward (unit p.east p.x) → d ≡ polar_digits 0 → Begun p (record { rest = spot.Cap x (QUARTER - 1 - p.y); digits = d })
 unfolding spot_in
-cap_begun {p} L f = begun L (rw (index_unit p.north p.y, f) refl)
+cap_begun {p} L f g = begun L g (rw (index_unit p.north p.y, f) refl)
 
 -- ---- the edges give the cell
 

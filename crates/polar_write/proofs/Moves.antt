@@ -1,7 +1,7 @@
 -- One level near a pole: a node's digits and its child, by where the square stands in it.
 -- Assumes nothing.
 use mathlib.Core.Path.{◌≡◌, refl, sym, ◌∙◌, ap, subst}
-use mathlib.Core.Bool.{Bool, true, false}
+use mathlib.Core.Bool.{Bool, true}
 use mathlib.Core.List.{List, ◌∷◌}
 use Prim.Native.Nat.{ℕ, zero, suc, ◌+◌, ◌-◌, ◌*◌, ◌/◌, ◌%◌, ◌≤◌, ◌<◌}
 use native.Mathlib.Nat.{div-add-mod', div-div-eq-div-mul, div-eq_of_eq-mul_left, mul-div_cancel, mul_assoc, mul_comm}
@@ -14,7 +14,8 @@ use Rattle.grid.specs.Plane.{Frame, x_in, y_in, Box, Node, globe, pole, cell, ca
 use Rattle.grid.proofs.Cut.{part_direct}
 use Rattle.grid.proofs.Step.{In, InCell, InCap, read_write, box_of, cell_read, ring_here}
 use Rattle.grid.proofs.PlaneLaws.{Good, GoodCell, GoodCap, cell_exact, cap_exact}
-use Rattle.polar_write.specs.inner.Spots.{spot, ring_width, cap_step, spot_in, spot_step, SpotDivides}
+use Rattle.polar_write.specs.declared.Spot.TheVariants as spot
+use Rattle.polar_write.specs.inner.Spots.{ring_width, cap_step, spot_in, spot_step, SpotDivides}
 use Rattle.polar_write.proofs.Table.{Told}
 
 -- ---- numbers
@@ -103,7 +104,7 @@ module _ (h : ℕ) (t : Split) (T : Told h t) where
           child = cell_read t.characters p f b E s i;
           shape = record { near = S.near; high = part_height; m = S.m; some = S.some; wide = part_width };
           digits = rw (column_of (x_in f s - b.x), part_height, ap (λ (q : Part). q.form) part_near) refl;
-          rest = λ j. spot false (column_rest (x_in f s) i.inside.xl j) (row_rest (y_in f s) i.inside.yl j);
+          rest = λ j. spot.Cell (column_rest (x_in f s) i.inside.xl j) (row_rest (y_in f s) i.inside.yl j);
         }
 
   -- ---- a cap

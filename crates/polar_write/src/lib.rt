@@ -1,29 +1,29 @@
 // The writer of polar plane codes: those of a latitude index of 648,806,400 or more (document 01, "The poles").
 // A square is carried down level by level as a Spot, its place in the cell reached so far. A cell that is no cap is seen as wide as
 // it is high, in parts as wide as need be, so that its columns and rows are found alike and every divisor is a constant. Each step takes the place of
-// its characters from `grid`, in a plane code or in a space code.
+// its characters from `grid`: in a plane code, or in a space code where `SPACED` is true.
 #![tactic(auto)]
 
-ghost use Rattle.std.specs.Prelude.{◌≡◌, true, false, ◌+◌, ◌/◌, ◌≤◌, ◌<◌, length};
-ghost use Rattle.std.proofs.lemmas.List.Edits.{sets};
+ghost use Rattle.std.specs.Prelude.{◌≡◌, ◌+◌, ◌/◌, ◌≤◌, ◌<◌, length};
 ghost use Rattle.grid.specs.Units.{TURN, HALF, DISC, unit, eastward};
 ghost use Rattle.grid.specs.inner.Roads.{square_of};
-ghost use Rattle.grid.specs.inner.Standing.{zone_place, plane_place, stands_at, spread};
-ghost use Rattle.grid.specs.Splits.{second, polar_cell_at};
-ghost use Rattle.grid.specs.Plane.{SIXTH, polar_height, belt_box, code_of};
-ghost use Rattle.polar_write.specs.inner.Spots.{first_chars, cap_step, spot_step, SpotDivides, SpotReady, Gone, Polar, Lies, LiesInColumn, Begun, SpotStarted, PolarWritable};
+ghost use Rattle.grid.specs.inner.Standing.{zone_place, stands_at, spread};
+ghost use Rattle.grid.specs.Plane.{SIXTH, belt_box, code_of};
+ghost use Rattle.polar_write.specs.inner.Spots.{first_chars, cap_step, spot_step, polar_digits, SpotDivides, Polar, Lies, LiesInColumn, Begun, PolarWritable};
 
 use grid::{Digits, Place, Split};
 
-// 60°, the width of a belt cell.
-const SIXTH: u32 = 60 * grid::DEGREE;
+// 120°, the width of the disc's cells but the cap: three about it.
+const THIRD: u32 = 120 * grid::DEGREE;
 
-// Where a square stands: in a cap, x eastward and y from the pole; in another cell, both from its corner in its own directions.
+// 30', the height of the polar cells.
+const HIGH: u32 = 30 * grid::MINUTE;
+
+// Where a square stands: in a cap, eastward and from the pole; in another cell, from its corner in its own directions.
 #[derive(Clone, Copy)]
-struct Spot {
-    cap: bool,
-    x: u32,
-    y: u32,
+enum Spot {
+    Cap { eastward: u32, from_pole: u32 },
+    Cell { x: u32, y: u32 },
 }
 
 // One level: where the square stands in its child, and the digits that lead there (at level 2 those of the polar cell).
@@ -43,10 +43,9 @@ fn divide_cap(s: Split, e: u32, q: u32) -> Step
     let row = q / h;
     if row == 0 {
         return Step {
-            rest: Spot {
-                cap: true,
-                x: e,
-                y: q,
+            rest: Spot::Cap {
+                eastward: e,
+                from_pole: q,
             },
             digits: Digits {
                 columns: s.ring,
@@ -57,102 +56,71 @@ fn divide_cap(s: Split, e: u32, q: u32) -> Step
     }
     let w = grid::TURN / s.ring;
     Step {
-        rest: Spot {
-            cap: false,
+        rest: Spot::Cell {
             x: e % w / (w / h),
             y: q % h,
         },
         digits: Digits {
             columns: s.ring,
             column: e / w,
-            row: row,
+            row,
         },
     }
 }
 
-// One level, whatever its split.
-fn divide(s: Split, spot: Spot) -> Step
-    requires { SpotDivides s }
-    ensures { result ≡ spot_step s spot }
-{
-    let x = spot.x;
-    let y = spot.y;
-    if spot.cap {
-        return divide_cap(s, x, y);
+impl Spot {
+    // One level, whatever its split.
+    fn divide(self, s: Split) -> Step
+        requires { SpotDivides s }
+        ensures { result ≡ spot_step s self }
+    {
+        match self {
+            Spot::Cap {
+                eastward,
+                from_pole,
+            } => divide_cap(s, eastward, from_pole),
+            Spot::Cell { x, y } => {
+                let h = s.width;
+                Step {
+                    rest: Spot::Cell { x: x % h, y: y % h },
+                    digits: Digits {
+                        columns: s.columns,
+                        column: x / h,
+                        row: y / h,
+                    },
+                }
+            }
+        }
     }
-    let h = s.width;
-    Step {
-        rest: Spot {
-            cap: false,
-            x: x % h,
-            y: y % h,
-        },
-        digits: Digits {
-            columns: s.columns,
-            column: x / h,
-            row: y / h,
-        },
-    }
-}
-
-// Goes down place k of the table, from 2 on: level k + 1, written where the code goes so far.
-fn next(spaced: bool, level: u32, k: u32, s: Split, spot: Spot, line: &mut [u8]) -> Spot
-    requires { SpotReady spaced level k s spot line.old }
-    ensures { Gone spaced level k s spot line.old line.new result }
-{
-    let d = divide(s, spot);
-    grid::put_digits(level, k, s, d.digits, line, grid::level_place(spaced, k, s));
-    d.rest
 }
 
 // Level 1: N000 or S000.
-fn put_first(spaced: bool, north: bool, line: &mut [u8])
-    requires { zone_place spaced + 3 ≤ length line.old }
-    ensures { line.new ≡ spread (stands_at spaced) 0 (first_chars north) line.old }
+fn put_first<const SPACED: bool>(north: bool, line: &mut [u8])
+    requires { zone_place SPACED + 3 ≤ length line.old }
+    ensures { line.new ≡ spread (stands_at SPACED) 0 (first_chars north) line.old }
 {
-    let at = grid::zone_place(spaced);
+    let at = grid::zone_place(SPACED);
     line[0] = grid::hemisphere(north);
-    line[at] = b'0';
-    line[at + 1] = b'0';
-    line[at + 2] = b'0';
+    line[at..at + 3].copy_from_slice(b"000");
 }
 
 // The longitude taken eastward.
-fn eastward_of(east: bool, x: u32) -> u32
-    requires { x < HALF }
-    ensures { result ≡ eastward (unit east x) }
+fn eastward_of(p: Place) -> u32
+    requires { p.x < HALF }
+    ensures { result ≡ eastward (unit p.east p.x) }
 {
-    if east { x } else { grid::TURN - 1 - x }
+    if p.east { p.x } else { grid::TURN - 1 - p.x }
 }
 
-// The west edge of the polar cell k. Called with a literal it folds away, as `low_of` does.
-fn west_of(k: u32) -> u32
-    requires { k < 16 }
-    ensures { result ≡ (polar_cell_at k).west }
+// The digits of the polar cell k. It stays a number, as the table has it: document 01 names these cells by two digits, 4 · the first + the second.
+fn digits_of(k: u32) -> Digits
+    ensures { result ≡ polar_digits k }
 {
-    grid::polar_cell(k as usize).west
-}
-
-// Its edge farther from the pole.
-fn low_of(k: u32) -> u32
-    requires { k < 16 }
-    ensures { result ≡ (polar_cell_at k).low }
-{
-    grid::polar_cell(k as usize).low
-}
-
-// 30', the height of the polar cells: N000 and S000 are two degrees high and have four rows.
-fn high() -> u32
-    ensures { result ≡ polar_height }
-{
-    2 * grid::DEGREE / grid::split_of(0).inward / grid::split_of(1).inward
-}
-
-// 120°, the width of the disc's cells but the cap: three about it.
-fn third() -> u32
-    ensures { result ≡ TURN / second.ring }
-{
-    grid::TURN / grid::split_of(1).ring
+    Digits {
+        columns: 4,
+        column: k / 4,
+        row: k % 4,
+    }
 }
 
 // Where a belt cell with a west edge begins, outward from the prime meridian.
@@ -163,27 +131,23 @@ fn corner_of(west: u32) -> u32
     if west < grid::HALF {
         west
     } else {
-        grid::TURN - west - SIXTH
+        grid::TURN - west - grid::SIXTH
     }
 }
 
-// The step from N000 or S000 to the belt cell k.
+// The step from N000 or S000 to the belt cell k. The cell and the place stay two parameters, and `Lies k p` a clause: a struct of both would be built
+// for one call each time, and taken apart again in it.
 fn to_belt(k: u32, p: Place) -> Step
     requires { (4 ≤ k) × Lies k p }
     ensures { Begun p result }
 {
     let c = grid::polar_cell(k as usize);
     Step {
-        rest: Spot {
-            cap: false,
-            x: (p.x - corner_of(c.west)) / (SIXTH / high()),
+        rest: Spot::Cell {
+            x: (p.x - corner_of(c.west)) / (grid::SIXTH / HIGH),
             y: p.y - c.low,
         },
-        digits: Digits {
-            columns: 4,
-            column: k / 4,
-            row: k % 4,
-        },
+        digits: digits_of(k),
     }
 }
 
@@ -192,7 +156,7 @@ fn to_column(k: u32, p: Place) -> Step
     requires { LiesInColumn k p }
     ensures { Begun p result }
 {
-    if p.y < low_of(6) {
+    if p.y < grid::polar_cell(6).low {
         to_belt(k, p)
     } else {
         to_belt(k + 2, p)
@@ -205,18 +169,18 @@ fn in_belt(p: Place) -> Step
     ensures { Begun p result }
 {
     if p.east {
-        if p.x < west_of(5) {
+        if p.x < grid::polar_cell(5).west {
             return to_column(4, p);
         }
-        if p.x < west_of(8) {
+        if p.x < grid::polar_cell(8).west {
             return to_column(5, p);
         }
         return to_column(8, p);
     }
-    if p.x < grid::TURN - west_of(12) {
+    if p.x < grid::TURN - grid::polar_cell(12).west {
         return to_column(12, p);
     }
-    if p.x < grid::TURN - west_of(13) {
+    if p.x < grid::TURN - grid::polar_cell(13).west {
         return to_column(13, p);
     }
     to_column(9, p)
@@ -228,18 +192,12 @@ fn to_disc(k: u32, p: Place) -> Step
     ensures { Begun p result }
 {
     let c = grid::polar_cell(k as usize);
-    let h = high();
     Step {
-        rest: Spot {
-            cap: false,
-            x: (eastward_of(p.east, p.x) - c.west) / (third() / h),
-            y: c.low + h - 1 - p.y,
+        rest: Spot::Cell {
+            x: (eastward_of(p) - c.west) / (THIRD / HIGH),
+            y: c.low + HIGH - 1 - p.y,
         },
-        digits: Digits {
-            columns: 4,
-            column: k / 4,
-            row: k % 4,
-        },
+        digits: digits_of(k),
     }
 }
 
@@ -249,16 +207,11 @@ fn to_cap(p: Place) -> Step
     ensures { Begun p result }
 {
     Step {
-        rest: Spot {
-            cap: true,
-            x: eastward_of(p.east, p.x),
-            y: grid::QUARTER - 1 - p.y,
+        rest: Spot::Cap {
+            eastward: eastward_of(p),
+            from_pole: grid::QUARTER - 1 - p.y,
         },
-        digits: Digits {
-            columns: 4,
-            column: 0,
-            row: 0,
-        },
+        digits: digits_of(0),
     }
 }
 
@@ -267,20 +220,20 @@ fn in_disc(p: Place) -> Step
     requires { Polar p × (DISC ≤ p.y) }
     ensures { Begun p result }
 {
-    if low_of(0) <= p.y {
+    if grid::polar_cell(0).low <= p.y {
         return to_cap(p);
     }
-    let e = eastward_of(p.east, p.x);
-    if e < west_of(2) {
+    let e = eastward_of(p);
+    if e < grid::polar_cell(2).west {
         return to_disc(1, p);
     }
-    if e < west_of(3) {
+    if e < grid::polar_cell(3).west {
         return to_disc(2, p);
     }
     to_disc(3, p)
 }
 
-// The second level: the polar cell.
+// The second level: the polar cell. `Polar p` is one word in three clauses; a type for it would be built once, here, and named at each read of p.
 fn begin(p: Place) -> Step
     requires { Polar p }
     ensures { Begun p result }
@@ -292,46 +245,16 @@ fn begin(p: Place) -> Step
     }
 }
 
-// Writes the first two levels, as far as the code goes.
-fn start(spaced: bool, level: u32, p: Place, line: &mut [u8]) -> Spot
-    requires { PolarWritable spaced level p line.old }
-    ensures { SpotStarted spaced level p line.old line.new result }
+// The code of a level for a polar place, from the line's beginning on, each character at its place; the other bytes stay.
+pub fn put<const SPACED: bool>(level: u32, p: Place, line: &mut [u8])
+    requires { PolarWritable SPACED level p line.old }
+    ensures { line.new ≡ spread (stands_at SPACED) 0 (code_of level (square_of p)) line.old }
 {
-    put_first(spaced, p.north, line);
-    let d = begin(p);
-    let s = grid::split_of(1);
-    grid::put_digits(level, 1, s, d.digits, line, grid::level_place(spaced, 1, s));
-    d.rest
-}
-
-// The code of a level for a polar place, from the line's beginning on; the bytes after it stay.
-pub fn put(level: u32, p: Place, line: &mut [u8])
-    requires { PolarWritable false level p line.old }
-    ensures { line.new ≡ sets line.old 0 (code_of level (square_of p)) }
-{
-    let a = start(false, level, p, line);
-    let b = next(false, level, 2, grid::split_of(2), a, line);
-    let c = next(false, level, 3, grid::split_of(3), b, line);
-    let d = next(false, level, 4, grid::split_of(4), c, line);
-    let e = next(false, level, 5, grid::split_of(5), d, line);
-    let f = next(false, level, 6, grid::split_of(6), e, line);
-    let g = next(false, level, 7, grid::split_of(7), f, line);
-    let h = next(false, level, 8, grid::split_of(8), g, line);
-    next(false, level, 9, grid::split_of(9), h, line);
-}
-
-// The same characters, each at its place in a space code; the bytes between them stay.
-pub fn put_in_space(level: u32, p: Place, line: &mut [u8])
-    requires { PolarWritable true level p line.old }
-    ensures { line.new ≡ spread plane_place 0 (code_of level (square_of p)) line.old }
-{
-    let a = start(true, level, p, line);
-    let b = next(true, level, 2, grid::split_of(2), a, line);
-    let c = next(true, level, 3, grid::split_of(3), b, line);
-    let d = next(true, level, 4, grid::split_of(4), c, line);
-    let e = next(true, level, 5, grid::split_of(5), d, line);
-    let f = next(true, level, 6, grid::split_of(6), e, line);
-    let g = next(true, level, 7, grid::split_of(7), f, line);
-    let h = next(true, level, 8, grid::split_of(8), g, line);
-    next(true, level, 9, grid::split_of(9), h, line);
+    put_first::<SPACED>(p.north, line);
+    let mut step = begin(p);
+    grid::put_level::<SPACED>(level, 1, step.digits, line);
+    for k in 2..10 {
+        step = step.rest.divide(grid::split_of(k as usize));
+        grid::put_level::<SPACED>(level, k, step.digits, line);
+    }
 }

@@ -7,4 +7,5 @@ pub mod Leading
 pub mod Theorems
 pub mod Parts
 pub mod Lines
+pub mod Exits
 pub mod Cases

@@ -32,7 +32,7 @@ use Rattle.reference.proofs.Corners.{fit_of}
 
 -- ---- a base or a target
 
-pub fit_coarse : (c : Cell) → c.level < 5 → false ≡ fit c
+pub fit_coarse : (c : Cell) → c.level < 5 → leb 5 c.level ≡ fit c
 unfolding fit
 fit_coarse c h = rw (lt-leb 5 c.level h) refl
 

@@ -10,6 +10,7 @@ use lib.Dec.{leb, eqb}
 use lib.ListN.{length, take, drop, get_or, length-append, take-append-drop, drop_of_length-le}
 use lib.Seq.{take_at, drop-cons, get_or-append-add}
 use borrow.Author.Tests.{leb-true, leb-false, eqb-true}
+use Rattle.std.proofs.Common.{Option, Some, None, SomeIff, Result, Ok, Err, ok_or}
 use Rattle.grid.specs.declared.Cell.{Cell}
 use Rattle.grid.specs.declared.Refusal.{Refusal}
 use Rattle.grid.specs.Characters.{char_of, digit_of}
@@ -20,7 +21,7 @@ use Rattle.grid.proofs.Answers.{then_refused, accepted_inj, unless_accepted, the
 use Rattle.grid.proofs.Cut.{clash}
 use Rattle.grid.proofs.Characters.{digit_char, char_digit}
 use Rattle.reference.specs.Offsets.{offset_digit}
-use Rattle.reference.specs.Text.{reference_code, Aim, target_of, offset_in, aimed, aim_of, target_text}
+use Rattle.reference.specs.Text.{reference_code, Aim, target_of, offset_in, aimed, aimed_at, aim_of, target_text}
 use Rattle.reference.specs.Meaning.{Formed}
 use Rattle.reference.specs.inner.Parts.{target_from}
 use Rattle.reference.proofs.Numbers.{digit_fits}
@@ -66,6 +67,20 @@ short_six w h =
 pub too_short : (w : List ℕ) {r : Refusal} → length w < 3 → r ≡ wrong_length → refused r ≡ target_text w
 unfolding target_text
 too_short w h q = ap refused q ∙ then_refused target_of (short_six w h)
+
+-- what `checked_sub` and `ok_or` make of a length: 3 less, or a refusal
+pub less_three : (n k : ℕ) (o : Option ℕ) (q : Refusal) {r : Result ℕ Refusal} → SomeIff o (3 ≤ n) (n - 3) → r ≡ ok_or o q → r ≡ Ok k → (3 ≤ n) × (k ≡ n - 3)
+less_three n k (Some x) q h e f = let g : ◌≡◌ {A = Result ℕ Refusal} (Ok x) (Ok k) = sym e ∙ f in (h.0, (let z : x ≡ k = cc in sym z ∙ h.1))
+less_three n k None q h e f = clash (let g : ◌≡◌ {A = Result ℕ Refusal} (Err q) (Ok k) = sym e ∙ f in cc)
+
+pub no_three : (n : ℕ) (o : Option ℕ) (q f : Refusal) {r : Result ℕ Refusal} → SomeIff o (3 ≤ n) (n - 3) → r ≡ ok_or o q → r ≡ Err f → (n < 3) × (f ≡ q)
+no_three n (Some x) q f h e g = clash (let z : ◌≡◌ {A = Result ℕ Refusal} (Ok x) (Err f) = sym e ∙ g in cc)
+no_three n None q f h e g = let z : ◌≡◌ {A = Result ℕ Refusal} (Err q) (Err f) = sym e ∙ g in (omega (arith, h), cc)
+
+-- the base of a code is its first k characters
+pub read_at : (w : List ℕ) (k : ℕ) → k ≡ length w - 3 → and_then (aimed_at w k) target_of ≡ target_text w
+unfolding target_text
+read_at w k e = ap (λ (i : ℕ). and_then (aimed_at w i) target_of) e
 
 -- ---- what is read is formed by the rules, and what is so formed is read
 

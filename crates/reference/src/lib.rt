@@ -2,33 +2,22 @@
 // The writer finds M and N between two cells, the reader moves a cell by them; both count round a full turn, east and north alike.
 #![tactic(auto)]
 
-ghost use Rattle.std.specs.Prelude.{◌≡◌, true, ◌&&◌, List, ℕ, ◌+◌, ◌%◌, ◌≤◌, ◌<◌, length};
+mod offset;
+
+ghost use Rattle.std.specs.Prelude.{◌≡◌, true, ◌+◌, ◌%◌, ◌≤◌, ◌<◌, length};
 ghost use Rattle.std.proofs.lemmas.List.Edits.{sets};
-ghost use Rattle.grid.specs.Units.{TURN, index};
+ghost use Rattle.grid.specs.Units.{TURN, HALF, QUARTER, index};
 ghost use Rattle.grid.specs.inner.Roads.{square_of};
-ghost use Rattle.grid.specs.Answers.{accepted, and_then, plane_read};
-ghost use Rattle.grid.specs.Laying.{laid, written};
-ghost use Rattle.grid.specs.Plane.{longitude_at, cell_of};
+ghost use Rattle.grid.specs.Answers.{accepted, answer_of};
+ghost use Rattle.grid.specs.Laying.{laid};
+ghost use Rattle.grid.specs.Plane.{longitude_at, code_of, cell_of};
 ghost use Rattle.reference.specs.Offsets.{offset_digit, moved_to, span_in, span_of};
-ghost use Rattle.reference.specs.Text.{fit, reference_code, spelled, spanned, related, reference_text, target_square, target_of, offset_in, aimed, target_text};
-ghost use Rattle.reference.specs.inner.Parts.{offset_answer, offset_text, Small, goal_text, Layable, target_from, Known, AsRead, Steps};
+ghost use Rattle.reference.specs.Text.{fit, reference_code, reference_text, target_square, target_of, offset_in, target_text};
+ghost use Rattle.reference.specs.inner.Parts.{offset_answer, text_of, target_from, Known, Steps};
 
 use distances::LAST;
-use grid::{Cell, HALF, POLAR, Place, PlaneRead, Refusal, TURN, Written};
-
-// M and N as digits, or why there are none.
-#[derive(Clone, Copy)]
-pub enum Offset {
-    By(u32, u32),
-    Refused(Refusal),
-}
-
-// Where a reference code leads: the target's level and the place of its corner, or why it leads nowhere.
-#[derive(Clone, Copy)]
-enum Goal {
-    At(u32, Place),
-    Refused(Refusal),
-}
+use grid::{Cell, HALF, POLAR, Place, Reason, Refusal, TURN};
+pub use offset::Offset;
 
 // ---- bases and targets
 
@@ -36,17 +25,7 @@ enum Goal {
 fn fits(c: Cell) -> bool
     ensures { result ≡ fit c }
 {
-    if c.level < 5 {
-        return false;
-    }
-    distances::outward(c.south) < POLAR
-}
-
-// Both of them.
-fn both_fit(b: Cell, t: Cell) -> bool
-    ensures { result ≡ (fit b && fit t) }
-{
-    if fits(b) { fits(t) } else { false }
+    5 <= c.level && distances::outward(c.south) < POLAR
 }
 
 // ---- M and N
@@ -71,56 +50,26 @@ fn span(size: u32, a: i32, b: i32) -> u32
     cells(size, distances::apart(a, b))
 }
 
-// Refusal 10, else M and N.
-fn offset_of(b: Cell, t: Cell) -> Offset
-    requires { (0 < b.width) × (0 < b.height) }
-    ensures { ((w : List ℕ) → offset_text result w ≡ spelled w b t) × Small result }
+// What leads from the base's code to the target's: refusals 6, 7 or 20 of the base; 6, 7 or 20 of the target, with ordinal 2; 8, 9, 10; else M and N.
+// The target is read first, and its refusal is looked at second: so less is kept while the codes are read.
+fn offset_to(base: &[u8], target: &[u8]) -> Result<Offset, Refusal>
+    ensures { text_of result (λ o. reference_code base.now o.m o.n) ≡ reference_text base.now target.now }
 {
+    let t = plane::read(target);
+    let b = plane::read(base)?;
+    let t = t.map_err(|r| grid::about(2, r))?;
+    if !(fits(b) && fits(t)) {
+        return Err(Reason::ReferenceCell.refuse());
+    }
+    if b.level != t.level {
+        return Err(Reason::LevelsDiffer.refuse());
+    }
     let m = span(b.width, b.west, t.west);
-    if 16 < m {
-        return Offset::Refused(grid::refuse(10));
-    }
     let n = span(b.height, b.south, t.south);
-    if 16 < n {
-        return Offset::Refused(grid::refuse(10));
+    if 16 < m || 16 < n {
+        return Err(Reason::Offset.refuse());
     }
-    Offset::By(m, n)
-}
-
-// Refusals 8 and 9, else what lies between the two.
-fn spans(b: Cell, t: Cell) -> Offset
-    requires { Known b }
-    ensures { ((w : List ℕ) → offset_text result w ≡ spanned w b t) × Small result }
-{
-    if both_fit(b, t) {
-        if b.level == t.level {
-            return offset_of(b, t);
-        }
-        return Offset::Refused(grid::refuse(9));
-    }
-    Offset::Refused(grid::refuse(8))
-}
-
-// The target's 6, 7 or 20, else what lies between the two.
-fn spans_to(b: Cell, t: PlaneRead) -> Offset
-    requires { Known b }
-    ensures { ((w : List ℕ) → offset_text result w ≡ related w (accepted b) (plane_read t)) × Small result }
-{
-    match t {
-        PlaneRead::Found(c) => spans(b, c),
-        PlaneRead::Refused(r) => Offset::Refused(grid::about(2, r)),
-    }
-}
-
-// The base's 6, 7 or 20, then the target's, else what lies between the two.
-fn relate(b: PlaneRead, t: PlaneRead) -> Offset
-    requires { AsRead b }
-    ensures { ((w : List ℕ) → offset_text result w ≡ related w (plane_read b) (plane_read t)) × Small result }
-{
-    match b {
-        PlaneRead::Found(c) => spans_to(c, t),
-        PlaneRead::Refused(r) => Offset::Refused(r),
-    }
+    Ok(Offset { m, n })
 }
 
 // ---- the cell that M and N lead to
@@ -129,13 +78,7 @@ fn relate(b: PlaneRead, t: PlaneRead) -> Offset
 fn is_offset(v: u32) -> bool
     ensures { result ≡ offset_digit v }
 {
-    if v < 8 {
-        return true;
-    }
-    if v < 10 {
-        return false;
-    }
-    v <= 16
+    matches!(v, 0..=7 | 10..=16)
 }
 
 // d units on from a, round a turn.
@@ -164,7 +107,7 @@ fn index_at(e: u32) -> u32
     requires { e < TURN }
     ensures { result ≡ index (longitude_at e) }
 {
-    if e < HALF { e } else { LAST - e }
+    e.min(LAST - e)
 }
 
 // The place of two remainders.
@@ -181,206 +124,130 @@ fn placed(e: u32, n: u32) -> Place
 }
 
 // The place of the target's corner.
-fn landed(b: Cell, m: u32, n: u32) -> Place
-    requires { Steps b × (offset_digit m ≡ true) × (offset_digit n ≡ true) }
-    ensures { square_of result ≡ target_square b m n }
+fn landed(b: Cell, o: Offset) -> Place
+    requires { Steps b }
+    ensures { square_of result ≡ target_square b o.m o.n }
 {
-    placed(moved_to(b.width, m, b.west), moved_to(b.height, n, b.south))
+    placed(
+        moved_to(b.width, o.m, b.west),
+        moved_to(b.height, o.n, b.south),
+    )
 }
 
-// Refusals 8 and 12, else the target's level and place.
-fn target_of(b: Cell, m: u32, n: u32) -> Goal
-    requires { Known b × (offset_digit m ≡ true) × (offset_digit n ≡ true) }
-    ensures { (goal_text result ≡ target_of (record { from = b; m = m; n = n })) × Layable result }
+// Where a reference code leads: the target's level and the place of its corner.
+#[derive(Clone, Copy)]
+struct Target {
+    level: u32,
+    place: Place,
+    ghost on_the_globe: { (1 ≤ level) × (level ≤ 10) × (place.x < HALF) × (place.y < QUARTER) },
+}
+
+// The target that an offset leads to from the cell of a code, or refusal 8 or 12.
+fn target_of(b: Cell, o: Offset) -> Result<Target, Refusal>
+    requires { Known b }
+    ensures { text_of result (λ t. code_of t.level (square_of t.place)) ≡ target_of (record { from = b; m = o.m; n = o.n }) }
 {
-    if fits(b) {
-        let p = landed(b, m, n);
-        if p.y < POLAR {
-            return Goal::At(b.level, p);
-        }
-        return Goal::Refused(grid::refuse(12));
+    if !fits(b) {
+        return Err(Reason::ReferenceCell.refuse());
     }
-    Goal::Refused(grid::refuse(8))
+    let place = landed(b, o);
+    if POLAR <= place.y {
+        return Err(Reason::PolarTarget.refuse());
+    }
+    Ok(Target {
+        level: b.level,
+        place: place,
+    })
+}
+
+// The target's plane code, laid into the line from `at` on: refusal 5, else the number of bytes.
+fn lay_target(t: Target, line: &mut [u8], at: usize) -> Result<usize, Refusal>
+    ensures { (answer_of result, line.new) ≡ laid (accepted (code_of t.level (square_of t.place))) line.old at }
+{
+    let p = t.place;
+    let n = plane::length_of(t.level);
+    if grid::room_from(line.len(), at) < n {
+        return Err(Reason::Room.refuse());
+    }
+    plane::put::<false>(t.level, p.east, p.north, p.x, &mut line[at..], p.y);
+    Ok(n)
 }
 
 // The hyphen at place k, M and N: refusal 7 or 20, else the two digits. They are read by themselves: a base is not needed for it.
-pub fn offset_in(k: usize, h: u8, m: u8, n: u8) -> Offset
+pub fn offset_in(k: usize, h: u8, m: u8, n: u8) -> Result<Offset, Refusal>
     requires { k < 18446744073709551613 }
     ensures { offset_answer result ≡ offset_in k h m n }
 {
     let u = grid::digit(m);
     let v = grid::digit(n);
     if h != b'-' {
-        return Offset::Refused(grid::wrong_character(k, h));
+        return Err(grid::wrong_character(k, h));
     }
-    if is_offset(u) {
-        if is_offset(v) {
-            return Offset::By(u, v);
-        }
-        return Offset::Refused(grid::wrong_character(k + 2, n));
+    if !is_offset(u) {
+        return Err(grid::wrong_character(k + 1, m));
     }
-    Offset::Refused(grid::wrong_character(k + 1, m))
-}
-
-// The 7 or 20 of the hyphen, M and N, else where they lead from the base.
-fn offset_from(b: Cell, k: usize, h: u8, m: u8, n: u8) -> Goal
-    requires { Known b × (k < 18446744073709551613) }
-    ensures { (goal_text result ≡ and_then (aimed k h m n (accepted b)) target_of) × Layable result }
-{
-    match offset_in(k, h, m, n) {
-        Offset::By(u, v) => target_of(b, u, v),
-        Offset::Refused(r) => Goal::Refused(r),
+    if !is_offset(v) {
+        return Err(grid::wrong_character(k + 2, n));
     }
-}
-
-// The base's 6, 7 or 20, else what follows it.
-fn aim(base: PlaneRead, k: usize, h: u8, m: u8, n: u8) -> Goal
-    requires { AsRead base × (k < 18446744073709551613) }
-    ensures { (goal_text result ≡ and_then (aimed k h m n (plane_read base)) target_of) × Layable result }
-{
-    match base {
-        PlaneRead::Found(c) => offset_from(c, k, h, m, n),
-        PlaneRead::Refused(r) => Goal::Refused(r),
-    }
+    Ok(Offset { m: u, n: v })
 }
 
 // ---- the line
 
-// The base's bytes, from the line's first byte on.
-fn copy(base: &[u8], line: &mut [u8])
-    requires { length base.now ≤ length line.old }
-    ensures { line.new ≡ sets line.old 0 base.now }
-{
-    let mut i = 0;
-    while i < base.len() {
-        line[i] = base[i];
-        i += 1;
-    }
-}
-
 // The reference code, from the line's first byte on.
-fn put(base: &[u8], m: u32, n: u32, line: &mut [u8])
-    requires { (m ≤ 16) × (n ≤ 16) × (length base.now + 3 ≤ length line.old) }
-    ensures { line.new ≡ sets line.old 0 (reference_code base.now m n) }
+fn put(base: &[u8], o: Offset, line: &mut [u8])
+    requires { length base.now + 3 ≤ length line.old }
+    ensures { line.new ≡ sets line.old 0 (reference_code base.now o.m o.n) }
 {
-    copy(base, line);
     let k = base.len();
+    // By a loop: `copy_from_slice` is a call here, and takes more of the stack (3,672 bytes in place of 240).
+    for i in 0..k {
+        line[i] = base[i];
+    }
     line[k] = b'-';
-    line[k + 1] = grid::character(m);
-    line[k + 2] = grid::character(n);
+    line[k + 1] = grid::character(o.m);
+    line[k + 2] = grid::character(o.n);
 }
 
 // The reference code laid into the line from `at` on: refusal 5, else the number of bytes.
-fn lay(base: &[u8], m: u32, n: u32, line: &mut [u8], at: usize) -> Written
-    requires { (m ≤ 16) × (n ≤ 16) }
-    ensures { (written result, line.new) ≡ laid (accepted (reference_code base.now m n)) line.old at }
+fn lay(base: &[u8], o: Offset, line: &mut [u8], at: usize) -> Result<usize, Refusal>
+    ensures { (answer_of result, line.new) ≡ laid (accepted (reference_code base.now o.m o.n)) line.old at }
 {
-    if line.len() < at {
-        return Written::Refused(grid::refuse(5));
+    let n = base.len() + 3;
+    if grid::room_from(line.len(), at) < n {
+        return Err(Reason::Room.refuse());
     }
-    let k = base.len();
-    let room = line.len() - at;
-    if room < 3 {
-        return Written::Refused(grid::refuse(5));
-    }
-    if room - 3 < k {
-        return Written::Refused(grid::refuse(5));
-    }
-    put(base, m, n, &mut line[at..]);
-    Written::Bytes(k + 3)
+    put(base, o, &mut line[at..]);
+    Ok(n)
 }
 
-// A refusal, or the reference code.
-fn lay_offset(o: Offset, base: &[u8], line: &mut [u8], at: usize) -> Written
-    requires { Small o }
-    ensures { (written result, line.new) ≡ laid (offset_text o base.now) line.old at }
-{
-    match o {
-        Offset::By(m, n) => lay(base, m, n, line, at),
-        Offset::Refused(r) => Written::Refused(r),
-    }
-}
-
-// A refusal, or the target's plane code.
-fn lay_target(a: Goal, line: &mut [u8], at: usize) -> Written
-    requires { Layable a }
-    ensures { (written result, line.new) ≡ laid (goal_text a) line.old at }
-{
-    match a {
-        Goal::At(l, p) => {
-            let n = plane::length_of(l);
-            if grid::room_from(line.len(), at) < n {
-                return Written::Refused(grid::refuse(5));
-            }
-            plane::put(l, p.east, p.north, p.x, &mut line[at..], p.y);
-            Written::Bytes(n)
-        }
-        Goal::Refused(r) => Written::Refused(r),
-    }
-}
-
-// ---- the two calls
-
-// What leads from the base's code to the target's: refusals 6, 7 or 20 of the base; 6, 7 or 20 of the target, with ordinal 2; 8, 9, 10; else M and N.
-fn offset_to(base: &[u8], target: &[u8]) -> Offset
-    ensures { (offset_text result base.now ≡ reference_text base.now target.now) × Small result }
-{
-    let b = plane::read(base);
-    let t = plane::read(target);
-    relate(b, t)
-}
+// ---- the calls
 
 // The reference code that leads from the base's plane code to the target's, written into the line from `at` on.
 // Refusals, in this order: 6, 7 or 20 of the base; 6, 7 or 20 of the target, with ordinal 2; 8, 9, 10, 5. A refusal changes no byte.
-pub fn write(base: &[u8], target: &[u8], line: &mut [u8], at: usize) -> Written
-    ensures { (written result, line.new) ≡ laid (reference_text base.now target.now) line.old at }
+pub fn write(base: &[u8], target: &[u8], line: &mut [u8], at: usize) -> Result<usize, Refusal>
+    ensures { (answer_of result, line.new) ≡ laid (reference_text base.now target.now) line.old at }
 {
-    let o = offset_to(base, target);
-    lay_offset(o, base, line, at)
-}
-
-// Where a reference code leads: refusals 6, 7 or 20, 8, 12; else the target's level and place.
-fn goal_of(code: &[u8]) -> Goal
-    ensures { (goal_text result ≡ target_text code.now) × Layable result }
-{
-    let n = code.len();
-    if n < 3 {
-        return Goal::Refused(grid::refuse(6));
-    }
-    let k = n - 3;
-    let base = plane::read(&code[..k]);
-    aim(base, k, code[k], code[k + 1], code[k + 2])
+    let o = offset_to(base, target)?;
+    lay(base, o, line, at)
 }
 
 // The plane code that a reference code leads to, written into the line from `at` on.
 // Refusals, in this order: 6, 7 or 20, 8, 12, 5. A refusal changes no byte.
-pub fn read(code: &[u8], line: &mut [u8], at: usize) -> Written
-    ensures { (written result, line.new) ≡ laid (target_text code.now) line.old at }
+pub fn read(code: &[u8], line: &mut [u8], at: usize) -> Result<usize, Refusal>
+    ensures { (answer_of result, line.new) ≡ laid (target_text code.now) line.old at }
 {
-    let a = goal_of(code);
-    lay_target(a, line, at)
+    let k = code.len().checked_sub(3).ok_or(Reason::Length.refuse())?;
+    let b = plane::read(&code[..k])?;
+    let o = offset_in(k, code[k], code[k + 1], code[k + 2])?;
+    lay_target(target_of(b, o)?, line, at)
 }
 
-// ---- for short codes, which have no base of their own
-
-// The base's 6, 7 or 20, else where M and N lead from it.
-fn goal_by(base: PlaneRead, m: u32, n: u32) -> Goal
-    requires { AsRead base × (offset_digit m ≡ true) × (offset_digit n ≡ true) }
-    ensures { (goal_text result ≡ target_from (plane_read base) m n) × Layable result }
-{
-    match base {
-        PlaneRead::Found(c) => target_of(c, m, n),
-        PlaneRead::Refused(r) => Goal::Refused(r),
-    }
-}
-
-// The plane code that M and N, as digits, lead to from a base's plane code, written into the line from `at` on.
+// For short codes, which have no base of their own: the plane code that an offset leads to from a base's plane code, written into the line from `at` on.
 // Refusals, in this order: 6, 7 or 20 of the base, 8, 12, 5. A refusal changes no byte.
-pub fn read_by(base: &[u8], m: u32, n: u32, line: &mut [u8], at: usize) -> Written
-    requires { (offset_digit m ≡ true) × (offset_digit n ≡ true) }
-    ensures { (written result, line.new) ≡ laid (target_from (cell_of base.now) m n) line.old at }
+pub fn read_by(base: &[u8], o: Offset, line: &mut [u8], at: usize) -> Result<usize, Refusal>
+    ensures { (answer_of result, line.new) ≡ laid (target_from (cell_of base.now) o.m o.n) line.old at }
 {
-    let b = plane::read(base);
-    let a = goal_by(b, m, n);
-    lay_target(a, line, at)
+    let b = plane::read(base)?;
+    lay_target(target_of(b, o)?, line, at)
 }

@@ -3,4 +3,3 @@ pub mod Runs
 pub mod Naming
 pub mod Exactly
 pub mod Spans
-pub mod Meets

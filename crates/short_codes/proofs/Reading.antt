@@ -16,18 +16,12 @@ use Rattle.places.specs.Finding.{found_in}
 use Rattle.places.specs.declared.Spot.{Spot}
 use Rattle.places.proofs.Finding.{found_among_law, found_badly, not_badly, missing_not_badly}
 use Rattle.reference.specs.Text.{offset_in, target_text}
-use Rattle.reference.specs.declared.Offset.{Offset}
-use Rattle.reference.specs.declared.Offset.TheVariants.{By, Refused}
-use Rattle.reference.specs.inner.Parts.{offset_answer, target_from}
-use Rattle.reference.proofs.Spelling.{as_offset, target_behind}
+use Rattle.reference.specs.inner.Parts.{target_from}
+use Rattle.reference.proofs.Spelling.{target_behind}
 use Rattle.short_codes.specs.Text.{name_in, last_three, offset_of, code_at, short_text}
-use Rattle.short_codes.specs.inner.Parts.{Digits, text_at, text_nowhere}
+use Rattle.short_codes.specs.inner.Parts.{text_at, text_nowhere}
 
 -- ---- the last three bytes
-
-pub name_short : (w : List ℕ) → length w < 3 → [] ≡ name_in w
-unfolding name_in
-name_short w h = (let z : length w - 3 ≡ 0 = omega arith in rw z)
 
 pub offset_short : (w : List ℕ) {r : Refusal} → length w < 4 → r ≡ wrong_length → refused r ≡ offset_of w
 unfolding offset_of
@@ -48,12 +42,7 @@ module _ (w : List ℕ) where
       let none : drop (suc (suc (suc k))) w ≡ [] = drop_of_length-le w {i = suc (suc (suc k))} (omega arith) in
       rw (one, two, drop-cons w k 0 (omega arith), drop-cons w (suc k) 0 (omega arith), drop-cons w (suc (suc k)) 0 (omega arith), none) refl
 
--- M and N that were read are digits of offsets
-pub digits_of : (j h m n : ℕ) (o : Offset) → offset_answer o ≡ offset_in j h m n → Digits o
-digits_of j h m n (By u v) e = let d = as_offset j h m n (u, v) (sym e) in (d.east, d.north)
-digits_of j h m n (Refused r) e = tt
-
--- what they lead to from a base's code is what the reference reader gives for both
+-- what M and N lead to from a base's code is what the reference reader gives for both
 pub target_is : (w c : List ℕ) (o : ℕ × ℕ) → offset_of w ≡ accepted o → target_text (c ++ last_three w) ≡ target_from (cell_of c) o.0 o.1
 unfolding offset_of
 target_is w c o e =

@@ -21,6 +21,7 @@ use Rattle.grid.proofs.BothLaws.{second_mix, length_mix}
 use Rattle.grid.proofs.Families.{length_code_in}
 use Rattle.grid.proofs.LayerLaws.{rise_below}
 use Rattle.grid.proofs.Theorems.{theirs_fair, space_sound}
+use Rattle.layers.specs.declared.Edition.TheVariants.{Second}
 use Rattle.layers.specs.inner.Steps.{height_digits, standing}
 use Rattle.layers.proofs.Radices.{edition_fair}
 use Rattle.layers.proofs.Digits.{direct, height_straight, height_length}
@@ -88,7 +89,7 @@ first_bits z h =
 height_bits : (z : ℤ) → index z < 2147483648 → height_digits theirs 10 z ≡ bit_digits (twos_complement z)
 unfolding direct
 height_bits z h =
-    height_straight 64 (8 ∷ 2 ∷ 16 ∷ 16 ∷ 2 ∷ 8 ∷ 8 ∷ 8 ∷ 8 ∷ []) 9 z (edition_fair true) h
+    height_straight 64 (8 ∷ 2 ∷ 16 ∷ 16 ∷ 2 ∷ 8 ∷ 8 ∷ 8 ∷ 8 ∷ []) 9 z (edition_fair Second) h
     ∙ (λ j.
     sign_bit z h j
     ∷ (first_bits z h j / 10)
@@ -108,7 +109,7 @@ height_bits z h =
 
 long : (s : Square) (z : ℤ) → OnGrid theirs (s, z) → length (space_code_of theirs 10 (s, z)) ≡ 32
 unfolding space_code_of space_codes space_sound
-long s z o = length_code_in (space_codes theirs) (space_sound theirs theirs_fair) 10 (s, z) o (omega arith) ∙ long_sum true 10 (omega arith) (omega arith)
+long s z o = length_code_in (space_codes theirs) (space_sound theirs theirs_fair) 10 (s, z) o (omega arith) ∙ long_sum Second 10 (omega arith) (omega arith)
 
 places_part : (w : List ℕ) → map (λ p. get_or w p 0) height_places ≡ standing 10 w
 unfolding height_place
@@ -122,9 +123,9 @@ cut_by_bits s z o =
     let C = ten 10 (omega arith) (omega arith) in
     let ch = map char_of (height_digits theirs 10 z) in
     let np : length (code_of 10 s) ≡ 20 = code_length 10 s o.on_globe (omega arith) (omega arith) in
-    let nh : length ch ≡ 12 = length-map (height_digits theirs 10 z) char_of ∙ height_length theirs 10 z (edition_fair true) o.layer_in (omega arith) (omega arith) in
+    let nh : length ch ≡ 12 = length-map (height_digits theirs 10 z) char_of ∙ height_length theirs 10 z (edition_fair Second) o.layer_in (omega arith) (omega arith) in
     places_part w
     ∙ height_same 10 C w (long s z o)
-    ∙ ap (seconds ten_strands) (code_parts true 10 (omega arith) (s, z) o)
+    ∙ ap (seconds ten_strands) (code_parts Second 10 (omega arith) (s, z) o)
     ∙ seconds_woven ten_strands (code_of 10 s) ch C.some (np ∙ sym C.one) (nh ∙ sym C.two)
     ∙ ap (map char_of) (height_bits z o.layer_in)

@@ -1,7 +1,7 @@
 -- A space code's levels, seen as strands of plane characters and height characters. What is needed of all ten is tested by computing.
 -- Assumes nothing.
 use mathlib.Core.Path.{◌≡◌, refl, sym, ◌∙◌, ap, subst}
-use mathlib.Core.Bool.{Bool, true, false}
+use mathlib.Core.Bool.{true}
 use mathlib.Core.List.{List, [], ◌∷◌, map}
 use Prim.Native.Nat.{ℕ, zero, suc, ◌+◌, ◌-◌, ◌≤◌, ◌<◌}
 use native.Mathlib.Omega.{arith}
@@ -23,6 +23,8 @@ use Rattle.grid.proofs.PlaneLaws.{laws}
 use Rattle.grid.proofs.LayerLaws.{layer_laws}
 use Rattle.grid.proofs.BothLaws.{ones, twos, InBoth, GoodBoth}
 use Rattle.grid.proofs.Theorems.{is_edition, ours_fair, theirs_fair, space_sound}
+use Rattle.layers.specs.declared.Edition.{Edition}
+use Rattle.layers.specs.declared.Edition.TheVariants.{First, Second}
 use Rattle.layers.specs.Heights.{height_levels}
 use Rattle.layers.specs.inner.Editions.{radices_of}
 use Rattle.layers.specs.inner.Steps.{standing}
@@ -32,16 +34,16 @@ use Rattle.space.proofs.Weaving.{strands, each_some, counted, Sliced, sliced_one
 use Rattle.space.proofs.Tables.{length_few}
 
 -- an edition's layers on either side of the ground, and its levels
-abbrev pub top_of : Bool → ℕ
-top_of second = product (radices_of second)
+abbrev pub top_of : Edition → ℕ
+top_of edition = product (radices_of edition)
 
-abbrev pub levels_of : (second : Bool) → List (Pair plane (layers (top_of second)))
-levels_of second = space_levels (top_of second) splits (radices_of second)
+abbrev pub levels_of : (edition : Edition) → List (Pair plane (layers (top_of edition)))
+levels_of edition = space_levels (top_of edition) splits (radices_of edition)
 
 -- either edition passes the test
-pub edition_test : (second : Bool) → is_edition (radices_of second) ≡ true
-edition_test true = theirs_fair
-edition_test false = ours_fair
+pub edition_test : (edition : Edition) → is_edition (radices_of edition) ≡ true
+edition_test Second = theirs_fair
+edition_test First = ours_fair
 
 -- ---- fewer levels
 
@@ -62,34 +64,34 @@ module _ (top : ℕ) where
   strands_take (suc l) [] = refl
   strands_take (suc l) (t ∷ ts) = ap (λ x. record { lead = t.lead; one = t.one.characters; two = t.two.characters } ∷ x) (strands_take l ts)
 
-pub plane_levels : (second : Bool) (l : ℕ) → ones plane (layers (top_of second)) (take l (levels_of second)) ≡ take l splits
-plane_levels true l = ones_take (top_of true) l (levels_of true)
-plane_levels false l = ones_take (top_of false) l (levels_of false)
+pub plane_levels : (edition : Edition) (l : ℕ) → ones plane (layers (top_of edition)) (take l (levels_of edition)) ≡ take l splits
+plane_levels Second l = ones_take (top_of Second) l (levels_of Second)
+plane_levels First l = ones_take (top_of First) l (levels_of First)
 
-pub height_levels_law : (second : Bool) (l : ℕ) → twos plane (layers (top_of second)) (take l (levels_of second)) ≡ take l (height_levels (radices_of second))
-height_levels_law true l = twos_take (top_of true) l (levels_of true)
-height_levels_law false l = twos_take (top_of false) l (levels_of false)
+pub height_levels_law : (edition : Edition) (l : ℕ) → twos plane (layers (top_of edition)) (take l (levels_of edition)) ≡ take l (height_levels (radices_of edition))
+height_levels_law Second l = twos_take (top_of Second) l (levels_of Second)
+height_levels_law First l = twos_take (top_of First) l (levels_of First)
 
-pub level_strands : (second : Bool) (l : ℕ) → strands plane (layers (top_of second)) (take l (levels_of second)) ≡ take l ten_strands
+pub level_strands : (edition : Edition) (l : ℕ) → strands plane (layers (top_of edition)) (take l (levels_of edition)) ≡ take l ten_strands
 unfolding strands
-level_strands true l = strands_take (top_of true) l (levels_of true)
-level_strands false l = strands_take (top_of false) l (levels_of false)
+level_strands Second l = strands_take (top_of Second) l (levels_of Second)
+level_strands First l = strands_take (top_of First) l (levels_of First)
 
 -- ---- the levels can be gone down
 
-pub levels_good : (second : Bool) (l : ℕ) → l ≤ 10 → GoodBoth plane (layers (top_of second)) laws (layer_laws (top_of second)) (take l (levels_of second)) (globe, all)
+pub levels_good : (edition : Edition) (l : ℕ) → l ≤ 10 → GoodBoth plane (layers (top_of edition)) laws (layer_laws (top_of edition)) (take l (levels_of edition)) (globe, all)
 unfolding space_codes space_sound
-levels_good second l h = (space_sound (radices_of second) (edition_test second)).fits l h
+levels_good edition l h = (space_sound (radices_of edition) (edition_test edition)).fits l h
 
-pub root_in : (second : Bool) (s : Cube) → OnGrid (radices_of second) s → InBoth plane (layers (top_of second)) laws (layer_laws (top_of second)) (globe, all) s
-root_in second s o = (o.on_globe, o.layer_in)
+pub root_in : (edition : Edition) (s : Cube) → OnGrid (radices_of edition) s → InBoth plane (layers (top_of edition)) laws (layer_laws (top_of edition)) (globe, all) s
+root_in edition s o = (o.on_globe, o.layer_in)
 
 -- and are as long as the codes
-pub long_sum : (second : Bool) (l : ℕ) → 1 ≤ l → l ≤ 10 → total (space (top_of second)) (take l (levels_of second)) ≡ get_or space_lengths (l - 1) 0
+pub long_sum : (edition : Edition) (l : ℕ) → 1 ≤ l → l ≤ 10 → total (space (top_of edition)) (take l (levels_of edition)) ≡ get_or space_lengths (l - 1) 0
 unfolding total
-long_sum second zero a b = absurd (omega arith)
-long_sum true (suc l) a b = eqb-true _ _ (below (λ l. eqb (total (space (top_of true)) (take (suc l) (levels_of true))) (get_or space_lengths (suc l - 1) 0)) 10 l refl (omega arith))
-long_sum false (suc l) a b = eqb-true _ _ (below (λ l. eqb (total (space (top_of false)) (take (suc l) (levels_of false))) (get_or space_lengths (suc l - 1) 0)) 10 l refl (omega arith))
+long_sum edition zero a b = absurd (omega arith)
+long_sum Second (suc l) a b = eqb-true _ _ (below (λ l. eqb (total (space (top_of Second)) (take (suc l) (levels_of Second))) (get_or space_lengths (suc l - 1) 0)) 10 l refl (omega arith))
+long_sum First (suc l) a b = eqb-true _ _ (below (λ l. eqb (total (space (top_of First)) (take (suc l) (levels_of First))) (get_or space_lengths (suc l - 1) 0)) 10 l refl (omega arith))
 
 -- ---- what the strands of l levels have
 

@@ -22,19 +22,22 @@ use Rattle.grid.specs.Plane.{Node, globe, plane, plane_codes, cell_of}
 use Rattle.grid.specs.Layers.{ours, Stack, all, part, layers}
 use Rattle.grid.specs.Space.{space, space_codes, space_cell_of, space_lengths}
 use Rattle.grid.specs.inner.Standing.{plane_place, height_place, count_from, plane_in}
-use Rattle.grid.proofs.Cut.{below}
+use Rattle.grid.proofs.Cut.{below, clash}
 use Rattle.grid.proofs.Standing.{height_in, given_length, plane_at}
 use Rattle.grid.proofs.Laws.{total, follow_ends}
 use Rattle.grid.proofs.PlaneLaws.{laws, splits_fit}
 use Rattle.grid.proofs.LayerLaws.{layer_laws}
 use Rattle.grid.proofs.Families.{level_length, length_level}
 use Rattle.grid.proofs.Theorems.{plane_sound, ours_fair, space_sound}
+use Rattle.layers.specs.declared.Edition.{Edition}
+use Rattle.layers.specs.declared.Edition.TheVariants.{First, Second}
 use Rattle.layers.specs.Heights.{height_levels, height_read}
 use Rattle.layers.specs.inner.Editions.{radices_of}
 use Rattle.layers.specs.inner.Steps.{standing}
 use Rattle.layers.proofs.Radices.{edition_fair}
 use Rattle.layers.proofs.Inside.{levels_fit, read_inside}
-use Rattle.plane.specs.inner.Lengths.{or_zero, SpaceCode}
+use Rattle.std.specs.Prelude.{Some, None}
+use Rattle.plane.specs.inner.Lengths.{found, SpaceCode}
 use Rattle.space.specs.inner.Weave.{Strand, firsts, seconds, place_two, together}
 use Rattle.space.specs.inner.Parts.{space_level_of, ten_strands, earlier, heights_in, joined_answer}
 use Rattle.space.proofs.Tables.{length_at}
@@ -66,31 +69,29 @@ pub record Leveled (n l : ℕ) : Type 0 where
   pub high : l ≤ 10
   pub long : n ≡ get_or space_lengths (l - 1) 0
 
-pub leveled : (n : ℕ) {l : ℕ} → l ≡ space_level_of n → (l ≡ 0 → ⊥) → Leveled n l
+pub leveled : (n : ℕ) {l : ℕ} → Some l ≡ space_level_of n → Leveled n l
 unfolding space_level_of space_codes
-leveled n {l} e h = go (place_in n 1 space_lengths) refl
+leveled n {l} e = go (place_in n 1 space_lengths) refl
   where
     go : (o : Option ℕ) → place_in n 1 space_lengths ≡ o → Leveled n l
-    go none p = absurd (h (e ∙ ap or_zero p))
+    go none p = clash (let q : Some l ≡ None = e ∙ ap found p in cc)
     go (some k) p =
-        let q : l ≡ k = e ∙ ap or_zero p in
+        let q : Some l ≡ Some k = e ∙ ap found p in
+        let r : l ≡ k = cc in
         let t = level_length (space_codes ours) (space_sound ours ours_fair) n k p in
-        subst (Leveled n) (sym q) (record { place = p; low = t.0; high = t.1; long = t.2 ∙ long_sum false k t.0 t.1 })
+        subst (Leveled n) (sym r) (record { place = p; low = t.0; high = t.1; long = t.2 ∙ long_sum First k t.0 t.1 })
 
 -- and the length of its space codes
 pub spaced : {n l : ℕ} → Leveled n l → SpaceCode l n
 spaced {n} {l} t = record { some = t.low; most = t.high; long = t.long ∙ sym (length_at l t.low t.high) }
 
-pub read_none : (rs w : List ℕ) {l : ℕ} → l ≡ space_level_of (length w) → l ≡ 0 → refused wrong_length ≡ space_cell_of rs w
+pub read_none : (rs w : List ℕ) → None ≡ space_level_of (length w) → refused wrong_length ≡ space_cell_of rs w
 unfolding space_level_of space_cell_of read_in space_codes
-read_none rs w {l} e h = go (place_in (length w) 1 space_lengths) refl
+read_none rs w e = go (place_in (length w) 1 space_lengths) refl
   where
     go : (o : Option ℕ) → place_in (length w) 1 space_lengths ≡ o → refused wrong_length ≡ answer_at (space_codes rs) w o
     go none p = refl
-    go (some k) p =
-        let t = level_length (space_codes ours) (space_sound ours ours_fair) (length w) k p in
-        let z : l ≡ k = e ∙ ap or_zero p in
-        absurd (omega (arith, t.0))
+    go (some k) p = clash (let q : None ≡ Some k = e ∙ ap found p in cc)
 
 -- ---- the two parts, each read
 
@@ -99,11 +100,11 @@ unfolding total
 plane_total zero a b = absurd (omega arith)
 plane_total (suc l) a b = eqb-true _ _ (below (λ l. eqb (total plane (take (suc l) splits)) (split_at (suc l - 1)).length) 10 l refl (omega arith))
 
-height_total : (second : Bool) (l : ℕ) → 1 ≤ l → l ≤ 10 → total (layers (top_of second)) (take l (height_levels (radices_of second))) ≡ 2 + l
+height_total : (edition : Edition) (l : ℕ) → 1 ≤ l → l ≤ 10 → total (layers (top_of edition)) (take l (height_levels (radices_of edition))) ≡ 2 + l
 unfolding total
-height_total second zero a b = absurd (omega arith)
-height_total true (suc l) a b = eqb-true _ _ (below (λ l. eqb (total (layers (top_of true)) (take (suc l) (height_levels (radices_of true)))) (2 + suc l)) 10 l refl (omega arith))
-height_total false (suc l) a b = eqb-true _ _ (below (λ l. eqb (total (layers (top_of false)) (take (suc l) (height_levels (radices_of false)))) (2 + suc l)) 10 l refl (omega arith))
+height_total edition zero a b = absurd (omega arith)
+height_total Second (suc l) a b = eqb-true _ _ (below (λ l. eqb (total (layers (top_of Second)) (take (suc l) (height_levels (radices_of Second)))) (2 + suc l)) 10 l refl (omega arith))
+height_total First (suc l) a b = eqb-true _ _ (below (λ l. eqb (total (layers (top_of First)) (take (suc l) (height_levels (radices_of First)))) (2 + suc l)) 10 l refl (omega arith))
 
 -- the lesser of two places is that of the earlier refusal
 lesser : (w : List ℕ) (p q : ℕ) → wrong_at w (min p q) ≡ earlier (wrong_at w p) (wrong_at w q)
@@ -113,12 +114,12 @@ lesser w p q = go (ltb p q) refl
     go true e = let h : p < q = ltb-true p q e in ap (wrong_at w) (omega arith)
     go false e = let h : q ≤ p = ltb-false p q e in ap (wrong_at w) (omega arith)
 
-module _ (second : Bool) (l : ℕ) (low : 1 ≤ l) (high : l ≤ 10) where
+module _ (edition : Edition) (l : ℕ) (low : 1 ≤ l) (high : l ≤ 10) where
   abbrev rs : List ℕ
-  rs = radices_of second
+  rs = radices_of edition
 
   abbrev top : ℕ
-  top = top_of second
+  top = top_of edition
 
   C : Counted l
   C = ten l low high
@@ -132,8 +133,8 @@ module _ (second : Bool) (l : ℕ) (low : 1 ≤ l) (high : l ≤ 10) where
   height_inside : (d : List ℕ) (q : ℕ) → length d ≡ 2 + l → height_read rs l d ≡ bad q → q < 2 + l
   unfolding height_read
   height_inside d q e f =
-      let t = height_total second l low high in
-      subst (λ (x : ℕ). q < x) t (follow_ends (layers top) (layer_laws top) (take l (height_levels rs)) all d q (levels_fit rs l (edition_fair second)) (e ∙ sym t) f).inside
+      let t = height_total edition l low high in
+      subst (λ (x : ℕ). q < x) t (follow_ends (layers top) (layer_laws top) (take l (height_levels rs)) all d q (levels_fit rs l (edition_fair edition)) (e ∙ sym t) f).inside
 
   -- the two readings of the space code w, whose plane code is v, as answers and together
   as_joined : (v w : List ℕ) → ((p : ℕ) → p < (split_at (l - 1)).length → get_or v p 0 ≡ get_or w (plane_place p) 0)
@@ -160,12 +161,12 @@ module _ (second : Bool) (l : ℕ) (low : 1 ≤ l) (high : l ≤ 10) where
     S = take l ten_strands
 
     -- the two parts read together
-    both_read : follow (space top) (take l (levels_of second)) (globe, all) (map digit_of w)
+    both_read : follow (space top) (take l (levels_of edition)) (globe, all) (map digit_of w)
         ≡ together S (follow plane (take l splits) globe (map digit_of (firsts S w))) (height_read rs l (map digit_of (seconds S w)))
     unfolding height_read
     both_read =
-        follow_woven plane (layers top) laws (layer_laws top) (take l (levels_of second)) (globe, all) (map digit_of w) (levels_good second l high) (length-map w digit_of ∙ long ∙ sym (long_sum second l low high))
-        ∙ rw (plane_levels second l, height_levels_law second l, level_strands second l, parts_map sliced_one digit_of S w, parts_map sliced_two digit_of S w) refl
+        follow_woven plane (layers top) laws (layer_laws top) (take l (levels_of edition)) (globe, all) (map digit_of w) (levels_good edition l high) (length-map w digit_of ∙ long ∙ sym (long_sum edition l low high))
+        ∙ rw (plane_levels edition l, height_levels_law edition l, level_strands edition l, parts_map sliced_one digit_of S w, parts_map sliced_two digit_of S w) refl
 
     pub read_parts : place_in (length w) 1 space_lengths ≡ some l
         → joined_answer w (cell_of (plane_in true l w)) (heights_in top (height_read rs l (map digit_of (standing l w)))) ≡ space_cell_of rs w
@@ -182,11 +183,11 @@ module _ (second : Bool) (l : ℕ) (low : 1 ≤ l) (high : l ≤ 10) where
         (λ p e. height_inside (map digit_of fb) p (length-map fb digit_of ∙ height_long l C w long) e)))
 
 -- the reader's answer, from its two parts' answers
-pub read_joined : (second : Bool) (w : List ℕ) (l : ℕ) → Leveled (length w) l → {r : Answer SpaceCell} {a : Answer Cell} {b : Read (ℤ × ℕ)} → r ≡ joined_answer w a b
-    → a ≡ cell_of (plane_in true l w) → b ≡ heights_in (top_of second) (height_read (radices_of second) l (map digit_of (standing l w))) → r ≡ space_cell_of (radices_of second) w
-read_joined second w l t {a = a} {b = b} e f g =
+pub read_joined : (edition : Edition) (w : List ℕ) (l : ℕ) → Leveled (length w) l → {r : Answer SpaceCell} {a : Answer Cell} {b : Read (ℤ × ℕ)} → r ≡ joined_answer w a b
+    → a ≡ cell_of (plane_in true l w) → b ≡ heights_in (top_of edition) (height_read (radices_of edition) l (map digit_of (standing l w))) → r ≡ space_cell_of (radices_of edition) w
+read_joined edition w l t {a = a} {b = b} e f g =
     e ∙ ap (λ x. joined_answer w x b) f ∙ ap (λ x. joined_answer w (cell_of (plane_in true l w)) x) g
-    ∙ read_parts second l t.low t.high w t.long t.place
+    ∙ read_parts edition l t.low t.high w t.long t.place
 
 -- ---- the height characters
 
@@ -196,14 +197,11 @@ standing_long l w h =
     length-take-le (2 + l) (map f (count_from 0 12)) (let z : length (map f (count_from 0 12)) ≡ 12 = given_length f 12 in omega arith)
 
 -- layers that were read lie in their range
-pub lying : (second : Bool) (l : ℕ) (ds : List ℕ) {above : Bool} {low thick : ℕ} → ok (part above low thick) ≡ height_read (radices_of second) l ds → low < top_of second
-lying second l ds e = let r = read_inside (radices_of second) l ds (edition_fair second) (sym e) in omega (arith, r.0, r.1)
+pub lying : (edition : Edition) (l : ℕ) (ds : List ℕ) {above : Bool} {low thick : ℕ} → ok (part above low thick) ≡ height_read (radices_of edition) l ds → low < top_of edition
+lying edition l ds e = let r = read_inside (radices_of edition) l ds (edition_fair edition) (sym e) in omega (arith, r.0, r.1)
 
--- a bad height character is one of the level's
-pub height_few : (second : Bool) (l : ℕ) (w : List ℕ) → 1 ≤ l → l ≤ 10 → {p : ℕ} → bad p ≡ height_read (radices_of second) l (map digit_of (standing l w)) → p < 2 + l
-height_few second l w low high {p} e =
-    height_inside second l low high (map digit_of (standing l w)) p (length-map (standing l w) digit_of ∙ standing_long l w high) (sym e)
-
--- and stands in the code
-pub height_stands : {l n p : ℕ} → SpaceCode l n → p < 2 + l → height_place p < n
-height_stands {l} {n} {p} s h = rw s.long (height_in l p s.most (omega arith))
+-- a bad height character is one of the level's, and stands in the code
+pub few_stand : (edition : Edition) (l : ℕ) (w : List ℕ) {p : ℕ} → SpaceCode l (length w) → bad p ≡ height_read (radices_of edition) l (map digit_of (standing l w)) → (p < 12) × (height_place p < length w)
+few_stand edition l w {p} s e =
+    let f : p < 2 + l = height_inside edition l s.some s.most (map digit_of (standing l w)) p (length-map (standing l w) digit_of ∙ standing_long l w s.most) (sym e) in
+    (omega (arith, s.most), rw s.long (height_in l p s.most (omega arith)))

@@ -1,14 +1,11 @@
 -- What a space code writer is to write, and what a space reader answers, in document 01's numbers.
 -- Assumes nothing.
 use Rattle.std.specs.Prelude.{List, ℕ, ltb, ℤ}
-use Rattle.grid.specs.declared.SpaceCell.{SpaceCell}
 use Rattle.grid.specs.Units.{index, Square}
-use Rattle.grid.specs.Answers.{Answer, accepted, refused, refusal, unless, and_then}
+use Rattle.grid.specs.Answers.{Answer, accepted, refusal, unless, and_then}
 use Rattle.grid.specs.Layers.{edition_in, product}
 use Rattle.grid.specs.Space.{space_code_of}
 use Rattle.plane.specs.Text.{level_in, square_in}
-use Rattle.space.specs.declared.SpaceRead.{SpaceRead}
-use Rattle.space.specs.declared.SpaceRead.TheVariants.{Found, Refused}
 
 -- within an edition: refusal 4, else the space code of a square and a layer
 unfoldable pub layered_text : List ℕ → ℕ → Square → ℤ → Answer (List ℕ)
@@ -25,8 +22,3 @@ space_text_in edition l longitude latitude layer = and_then (edition_in edition)
 -- 1, 13, 2, 3 and 4 in that order, else the space code
 unfoldable pub space_text : ℤ → ℤ → ℤ → ℤ → ℤ → Answer (List ℕ)
 space_text edition level longitude latitude layer = and_then (level_in level) (λ l. space_text_in edition l longitude latitude layer)
-
--- a space reader's answer in the paper's numbers: the space cell, or the refusal
-abbrev pub space_read : SpaceRead → Answer SpaceCell
-space_read (Found c) = accepted c
-space_read (Refused r) = refused r

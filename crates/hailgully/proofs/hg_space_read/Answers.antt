@@ -6,5 +6,5 @@ use Rattle.hailgully.proofs.hg_space_read.Goals as goal
 
 pub returns : goal.returns
 returns c =
-    c.space_cell_of.ensures
+    c.from.ensures
     ∙ ap space_cell_for (c.read.ensures ∙ ap (λ (z : ℤ). space_cell_in z c.args.code.now) (to_z-of_z c.ranges.edition))

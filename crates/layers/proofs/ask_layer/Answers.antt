@@ -1,17 +1,13 @@
 -- `layers::ask_layer` meets its contract. Assumes nothing.
-use mathlib.Core.Path.{◌∙◌, ap}
-use mathlib.Core.List.{List}
-use Prim.Native.Nat.{ℕ}
-use mir.Syntax.{w64}
-use mir.Val.{to_z, of_z}
-use mir.Facts.{to_z-of_z}
-use Rattle.layers.specs.Heights.{asked_of}
 use Rattle.layers.specs.inner.Editions.{radices_of}
-use Rattle.layers.proofs.Radices.{fair_by}
+use Rattle.layers.proofs.Sides.{asked_outside, asked_below, asked_above}
 use Rattle.layers.proofs.ask_layer.Goals as goal
 
-pub ask_over-requires : goal.ask_over-requires
-ask_over-requires c = fair_by c.args.second c.radices_of.ensures
+pub returns-then-top-n : goal.returns-then-top-n
+returns-then-top-n c = asked_outside (radices_of c.args.edition) c.ranges.layer c.thickness-top.ensures c.outward-n.ensures c.refuse.ensures c.if-top-n.true
 
-pub returns : goal.returns
-returns c = c.ask_over.ensures ∙ ap (λ (rs : List ℕ). asked_of rs (to_z w64 (of_z w64 c.args.layer))) c.radices_of.ensures ∙ ap (asked_of (radices_of c.args.second)) (to_z-of_z c.ranges.layer)
+pub returns-then-layer-lt0 : goal.returns-then-layer-lt0
+returns-then-layer-lt0 c = asked_below (radices_of c.args.edition) c.ranges.layer c.thickness-top.ensures c.outward-n.ensures c.below_ground.ensures c.if-top-n.false c.if-layer-lt0.true
+
+pub returns-else-layer-lt0 : goal.returns-else-layer-lt0
+returns-else-layer-lt0 c = asked_above (radices_of c.args.edition) c.ranges.layer c.thickness-top.ensures c.outward-n.ensures c.if-top-n.false c.if-layer-lt0.false

@@ -1,16 +1,18 @@
--- The edition that is asked for, as the code holds it: whether it is the second.
+-- The edition that is asked for, and its list of radices.
 -- Assumes nothing.
-use Rattle.std.specs.Prelude.{Bool, cond, List, ℕ}
+use Rattle.std.specs.Prelude.{List, ℕ, Result, Ok, Err}
+use Rattle.grid.specs.declared.Refusal.{Refusal}
 use Rattle.grid.specs.Answers.{Answer, accepted, refused}
 use Rattle.grid.specs.Layers.{ours, theirs}
-use Rattle.layers.specs.declared.AskedEdition.{AskedEdition}
-use Rattle.layers.specs.declared.AskedEdition.TheVariants.{At, Refused}
+use Rattle.layers.specs.declared.Edition.{Edition}
+use Rattle.layers.specs.declared.Edition.TheVariants.{First, Second}
 
--- the radices of edition 2, or of edition 1
-abbrev pub radices_of : Bool → List ℕ
-radices_of second = cond second theirs ours
+-- an edition's radices
+abbrev pub radices_of : Edition → List ℕ
+radices_of First = ours
+radices_of Second = theirs
 
 -- the radices of the edition that was asked for, or the refusal
-abbrev pub edition_asked : AskedEdition → Answer (List ℕ)
-edition_asked (At second) = accepted (radices_of second)
-edition_asked (Refused r) = refused r
+abbrev pub edition_asked : Result Edition Refusal → Answer (List ℕ)
+edition_asked (Ok e) = accepted (radices_of e)
+edition_asked (Err r) = refused r

@@ -1,12 +1,12 @@
 -- What each level of the height has, over any list of radices: its thickness, its character, and where a reader stands after it; a layer's height digits.
 -- Assumes nothing.
-use Rattle.std.specs.Prelude.{◌≡◌, Bool, true, false, cond, ◌&&◌, List, [], ◌∷◌, map, ℕ, ◌+◌, ◌*◌, ◌/◌, ◌%◌, ◌≤◌, ◌<◌, ltb, leb, eqb, ℤ, length, get_or, take, drop}
+use Rattle.std.specs.Prelude.{◌≡◌, Bool, true, false, ◌&&◌, List, [], ◌∷◌, map, ℕ, ◌+◌, ◌*◌, ◌/◌, ◌%◌, ◌≤◌, ◌<◌, ltb, leb, eqb, ℤ, Result, IfOk, length, get_or, take, drop}
 use Rattle.grid.specs.Characters.{char_of, digit_of}
-use Rattle.grid.specs.Tree.{Read, ok, bad, next, code, follow}
+use Rattle.grid.specs.Tree.{Read, ok, guard, next, code, follow}
 use Rattle.grid.specs.inner.Standing.{length_in, height_place, count_from}
-use Rattle.grid.specs.Layers.{product, sign, Stack, all, part, all_child, layers, floor_of}
-use Rattle.layers.specs.declared.Height.{Height}
-use Rattle.layers.specs.Heights.{height_levels, height_read}
+use Rattle.grid.specs.Layers.{product, sign, Stack, all, part, layers, floor_of}
+use Rattle.layers.specs.declared.Layers.{Layers}
+use Rattle.layers.specs.Heights.{height_levels, height_read, layers_read}
 
 -- each radix after the first is some, and its digits are code characters
 abbrev pub fair_later : List ℕ → Bool
@@ -47,15 +47,7 @@ pub record HeightWritable (rs : List ℕ) (level rise : ℕ) (line : List ℕ) :
 abbrev pub first_height : Bool → ℕ → List ℕ
 first_height above n = char_of (sign above) ∷ char_of (n / 10) ∷ char_of (n % 10) ∷ []
 
--- level k + 1, a later one, n of whose cells lie below the layer: its character in a code of a level; none where the code ends before it
-unfoldable pub later_height_at : List ℕ → ℕ → ℕ → ℕ → List ℕ
-later_height_at rs level k n = cond (ltb k level) (char_of (n % get_or rs k 0) ∷ []) []
-
 -- ---- reading
-
--- what was read so far, by the reader's cursor
-abbrev pub height_of : Height → Read Stack
-height_of h = cond h.good (ok (part h.above h.low h.thick)) (bad h.place)
 
 -- the height characters of a space code of a level
 abbrev pub standing : ℕ → List ℕ → List ℕ
@@ -67,23 +59,21 @@ pub record Readable (level : ℕ) (code : List ℕ) : Type 0 where
   pub ten_levels : level ≤ 10
   pub room : length_in true level ≤ length code
 
--- the digit at place p is not allowed
-pub record BadAt (p : ℕ) (h : Height) : Type 0 where
-  pub none : h.good ≡ false
-  pub place : h.place ≡ p
+-- layers that a cell of level k has: as many as each has, and all of them in the range
+pub record KnownLayers (rs : List ℕ) (k : ℕ) (m : Layers) : Type 0 where
+  pub thick : m.thickness ≡ thickness_at rs k
+  pub inside : m.lowest.rise + m.thickness ≤ product rs
 
--- what the sign and the two decimal digits of level 1 lead to
-pub record HeightFirst (rs : List ℕ) (s a b : ℕ) (h : Height) : Type 0 where
-  pub read : height_of h ≡ all_child (product rs) (get_or rs 0 0) (s ∷ a ∷ b ∷ [])
-  pub thick : h.good ≡ true → h.thick ≡ thickness_at rs 1
-  pub inside : h.good ≡ true → h.low + h.thick ≤ product rs
+-- what the character b of level k + 1 leads to, from layers that a cell of level k has
+abbrev pub child_at : List ℕ → ℕ → ℕ → Layers → Read Stack
+child_at rs k b m =
+    guard (k + 2) (ltb (digit_of b) (get_or rs k 0)) (ok (part m.lowest.above (m.lowest.rise + digit_of b * thickness_at rs (k + 1)) (thickness_at rs (k + 1))))
 
 -- what the characters w after those of k levels lead to, from the layers that these led to
 abbrev pub height_rest : List ℕ → ℕ → ℕ → List ℕ → Stack → Read Stack
 height_rest rs level k w n = follow (layers (product rs)) (drop k (take level (height_levels rs))) n (drop (k + 2) (map digit_of w))
 
 -- a reader after k levels of the characters w: going on from what it found, the whole is found
-pub record Upto (rs : List ℕ) (level k : ℕ) (w : List ℕ) (h : Height) : Type 0 where
-  pub whole : height_read rs level (map digit_of w) ≡ next (k + 2) (height_of h) (height_rest rs level k w)
-  pub thick : h.good ≡ true → k ≤ level → h.thick ≡ thickness_at rs k
-  pub inside : h.good ≡ true → h.low + h.thick ≤ product rs
+pub record Upto (rs : List ℕ) (level k : ℕ) (w : List ℕ) (h : Result Layers ℕ) : Type 0 where
+  pub whole : height_read rs level (map digit_of w) ≡ next (k + 2) (layers_read h) (height_rest rs level k w)
+  pub known : k ≤ level → IfOk h (KnownLayers rs k)

@@ -5,8 +5,7 @@ use Rattle.grid.specs.declared.Digits.{Digits}
 use Rattle.grid.specs.declared.Place.{Place}
 use Rattle.grid.specs.declared.Split.{Split}
 use Rattle.grid.specs.Units.{HALF, POLAR}
-use Rattle.grid.specs.inner.Roads.{LevelFits}
-use Rattle.grid.specs.inner.Standing.{level_place, length_in}
+use Rattle.grid.specs.inner.Standing.{length_in}
 
 -- a level, an ordinary position, and a line with room for its plane code, or for its space code
 pub record OrdinaryWritable (spaced : Bool) (level : ℕ) (p : Place) (line : List ℕ) : Type 0 where
@@ -26,9 +25,3 @@ pub record OrdinaryDivides (s : Split) : Type 0 where
   pub high : 0 < s.height
   pub some_columns : 0 < s.columns
   pub some_rows : 0 < s.rows
-
--- level k + 1, whose split is s, can be written
-pub record OrdinaryReady (spaced : Bool) (level k : ℕ) (s : Split) (p : Place) (line : List ℕ) : Type 0 where
-  pub divides : OrdinaryDivides s
-  pub placed : (k < 10) × (s.characters ≤ s.length) × (s.length ≤ 20)
-  pub fits : LevelFits level k s (ordinary_digits s p.x p.y) line (level_place spaced k s)

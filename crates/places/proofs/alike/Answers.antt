@@ -1,21 +1,19 @@
 -- `places::alike` meets its contract. Assumes nothing.
 use mathlib.Core.Path.{sym, ◌∙◌}
-use Prim.Native.Nat.{◌+◌}
 use native.Mathlib.Omega.{arith}
-use lib.ListN.{length}
-use Rattle.places.proofs.Names.{lesser_within, lesser_greatest, alike_begins, alike_four}
+use Rattle.places.proofs.Names.{alike_begins, alike_four}
 use Rattle.places.proofs.alike.Goals as goal
 
 pub loop-i-init : goal.loop-i-init
-loop-i-init c = let s = c.args in (c.shorter-n.ensures, alike_begins s.a.now s.b.now)
+loop-i-init c = let s = c.args in (c.min-n.ensures, alike_begins s.a.now s.b.now)
 
 pub four-requires : goal.four-requires
 four-requires c = let s = c.args in
-    omega (arith, c.loop-i-test.true, c.loop-i.invariant.0, (lesser_within (length s.a.now) (length s.b.now)).0)
+    omega (arith, c.loop-i-test.true, c.loop-i.invariant.0)
 
 pub four-requires-in-loop-i : goal.four-requires-in-loop-i
 four-requires-in-loop-i c = let s = c.args in
-    omega (arith, c.loop-i-test.true, c.loop-i.invariant.0, (lesser_within (length s.a.now) (length s.b.now)).1)
+    omega (arith, c.loop-i-test.true, c.loop-i.invariant.0)
 
 pub returns-then-four : goal.returns-then-four
 returns-then-four c = record {
@@ -26,13 +24,12 @@ returns-then-four c = record {
 pub loop-i-preserved : goal.loop-i-preserved
 loop-i-preserved c = let s = c.args in
     let l = c.loop-i in
-    let t = c.loop-i-test.true in
-    let w = lesser_within (length s.a.now) (length s.b.now) in (
+    let t = c.loop-i-test.true in (
       l.invariant.0,
       alike_four s.a.now s.b.now l.i
           (λ j. omega (arith, c.type_inv.a j))
           (λ j. omega (arith, c.type_inv.b j))
-          (omega (arith, t, l.invariant.0, w.0)) (omega (arith, t, l.invariant.0, w.1))
+          (omega (arith, t, l.invariant.0)) (omega (arith, t, l.invariant.0))
           (sym c.four.ensures ∙ c.if-four.false ∙ c.four-in-loop-i.ensures) l.invariant.1,
     )
 
@@ -41,5 +38,5 @@ returns c = let s = c.args in
     let l = c.loop-i in
     record {
       to = l.invariant.1;
-      apart = λ h k e. absurd (omega (arith, lesser_greatest (length s.a.now) (length s.b.now) (l.i + 4) h k, c.loop-i-test.false, l.invariant.0));
+      apart = λ h k e. absurd (omega (arith, h, k, c.loop-i-test.false, l.invariant.0));
     }

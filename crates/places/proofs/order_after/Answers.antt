@@ -1,54 +1,26 @@
 -- `places::order_after` meets its contract. Assumes nothing.
-use mathlib.Core.Path.{refl, sym, ◌∙◌}
-use Prim.Native.Nat.{◌+◌}
+use mathlib.Core.Path.{◌≡◌, refl, ap, ◌∙◌}
+use mathlib.Core.List.{List}
+use Prim.Native.Nat.{ℕ, ◌-◌, ◌≤◌}
 use native.Mathlib.Omega.{arith}
-use lib.ListN.{length}
-use Rattle.places.proofs.Names.{lesser_within, lesser_reached, order_less, order_more, ends_below, ends_above, ends_same, alike_next}
+use lib.ListN.{length, take, drop, length-drop}
+use lib.Seq.{take_all}
+use Rattle.std.specs.Ordering.{ordering_index, nat_cmp}
+use Rattle.std.proofs.lemmas.Iterator.{YieldsList-from_slice}
+use Rattle.std.proofs.lemmas.Iterator.Search.{cmp_from_yields_List}
+use Rattle.places.proofs.Ordering.{index_order}
 use Rattle.places.proofs.order_after.Goals as goal
 
-pub loop-i-init : goal.loop-i-init
-loop-i-init c = (c.shorter-n.ensures, c.requires)
+-- a slice from d on is what is left from there
+from_there : (d : ℕ) (s : List ℕ) → d ≤ length s → take (length s - d) (drop d s) ≡ drop d s
+from_there d s h = take_all (length s - d) (drop d s) (rw length-drop (omega arith))
 
-pub bounds-a-i : goal.bounds-a-i
-bounds-a-i c = omega (arith, c.loop-i-test.true, c.loop-i.invariant.0, (lesser_within (length c.args.a.now) (length c.args.b.now)).0)
-
-pub bounds-b-i : goal.bounds-b-i
-bounds-b-i c = omega (arith, c.loop-i-test.true, c.loop-i.invariant.0, (lesser_within (length c.args.a.now) (length c.args.b.now)).1)
-
-pub returns-then-a-i : goal.returns-then-a-i
-returns-then-a-i c = let s = c.args in
-    let l = c.loop-i in
-    sym (order_less s.a.now s.b.now l.i (omega (arith, c.loop-i-test.true, c.loop-i.invariant.0, (lesser_within (length c.args.a.now) (length c.args.b.now)).0)) (omega (arith, c.loop-i-test.true, c.loop-i.invariant.0, (lesser_within (length c.args.a.now) (length c.args.b.now)).1)) c.if-a-i.true) ∙ l.invariant.1.decides
-
-pub bounds-b-i-in-loop-i : goal.bounds-b-i-in-loop-i
-bounds-b-i-in-loop-i c = omega (arith, c.loop-i-test.true, c.loop-i.invariant.0, (lesser_within (length c.args.a.now) (length c.args.b.now)).1)
-
-pub bounds-a-i-in-loop-i : goal.bounds-a-i-in-loop-i
-bounds-a-i-in-loop-i c = omega (arith, c.loop-i-test.true, c.loop-i.invariant.0, (lesser_within (length c.args.a.now) (length c.args.b.now)).0)
-
-pub returns-then-b-i : goal.returns-then-b-i
-returns-then-b-i c = let s = c.args in
-    let l = c.loop-i in
-    sym (order_more s.a.now s.b.now l.i (omega (arith, c.loop-i-test.true, c.loop-i.invariant.0, (lesser_within (length c.args.a.now) (length c.args.b.now)).0)) (omega (arith, c.loop-i-test.true, c.loop-i.invariant.0, (lesser_within (length c.args.a.now) (length c.args.b.now)).1)) c.if-b-i.true) ∙ l.invariant.1.decides
-
-pub loop-i-preserved : goal.loop-i-preserved
-loop-i-preserved c = let l = c.loop-i in (
-  l.invariant.0,
-  alike_next (l.i + 1) refl (omega (arith, c.loop-i-test.true, c.loop-i.invariant.0, (lesser_within (length c.args.a.now) (length c.args.b.now)).0)) (omega (arith, c.loop-i-test.true, c.loop-i.invariant.0, (lesser_within (length c.args.a.now) (length c.args.b.now)).1)) (omega (arith, c.if-a-i.false, c.if-b-i.false)) l.invariant.1,
-)
-
-pub returns-then-i-b : goal.returns-then-i-b
-returns-then-i-b c = let s = c.args in
-    let l = c.loop-i in
-    sym (ends_below s.a.now s.b.now l.i (lesser_reached (length s.a.now) (length s.b.now) l.i (omega (arith, c.loop-i-test.false, l.invariant.0)) c.if-i-b.true) c.if-i-b.true)
-    ∙ l.invariant.1.decides
-
-pub returns-then-i-a : goal.returns-then-i-a
-returns-then-i-a c = let s = c.args in
-    let l = c.loop-i in
-    sym (ends_above s.a.now s.b.now l.i c.if-i-a.true c.if-i-b.false) ∙ l.invariant.1.decides
-
-pub returns-else-i-a : goal.returns-else-i-a
-returns-else-i-a c = let s = c.args in
-    let l = c.loop-i in
-    sym (ends_same s.a.now s.b.now l.i c.if-i-a.false c.if-i-b.false) ∙ l.invariant.1.decides
+pub returns : goal.returns
+returns c = let a = c.args.a.now in
+    let b = c.args.b.now in
+    let d = c.args.d in
+    let u = from_there d a c.requires.inside_a in
+    let v = from_there d b c.requires.inside_b in
+    let r = cmp_from_yields_List (λ x y. y ≡ x) _ nat_cmp _ c.cmp.ensures.ran (YieldsList-from_slice (drop d a) (cc (c.iter.ensures.rest, u)))
+    (λ it e. YieldsList-from_slice (drop d b) (cc (c.iter-2.ensures.rest, v))) (λ x y. refl) in
+    ap ordering_index r ∙ index_order (drop d a) (drop d b) ∙ c.requires.decides

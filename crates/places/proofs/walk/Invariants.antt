@@ -1,12 +1,10 @@
 -- `places::walk` meets its contract. Assumes nothing.
-use mathlib.Core.List.{[]}
+use Prim.Native.Nat.{◌+◌, ◌-◌, ◌*◌}
+use lib.ListN.{length}
 use Rattle.places.proofs.Walking.{Going}
-use Rattle.places.specs.Reading.{entries_from}
-use Rattle.places.specs.inner.Walk.{noted, opened}
+use Rattle.places.specs.inner.Walk.{looked_in}
 use Rattle.places.proofs.walk.Given as goal
 
-abbrev pub invariant-loop-left : goal.invariant-loop-left
-invariant-loop-left l = Going l.asked l.book (noted l.asked (opened 0 l.at) (entries_from l.book l.k 2 l.at [])) l.left l.i l.here l.last l.seen
-
-abbrev pub decreases-loop-left : goal.decreases-loop-left
-decreases-loop-left l = l.left
+abbrev pub invariant-loop-entry : goal.invariant-loop-entry
+invariant-loop-entry l =
+    Going l.asked l.book (looked_in l.asked l.book (length l.entries)) (length l.entries - l.entry-index) (2 + 4 * l.entry-index) l.at l.last l.found

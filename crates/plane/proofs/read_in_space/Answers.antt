@@ -1,5 +1,6 @@
 -- `plane::read_in_space` meets its contract. Assumes nothing.
 use Rattle.std.proofs.Common.{◌≡◌, true, map, length, take, sym, ap, ◌∙◌, subst, arith}
+use Rattle.std.specs.Prelude.{Ok}
 use Rattle.grid.specs.Characters.{digit_of}
 use Rattle.grid.specs.Plane.{globe_child}
 use Rattle.grid.specs.Tree.{bad}
@@ -9,11 +10,11 @@ use Rattle.plane.specs.inner.Start.{first_read, Ranged}
 use Rattle.plane.proofs.Start.{first_digits_law}
 use Rattle.plane.proofs.Reading.{Leveled, leveled_at, read_rest, four_in, first_has, first_refused}
 use Rattle.plane.proofs.read_in_space.Goals as goal
-use Rattle.plane.proofs.read_in_space.Goals.{After-begin, In-Bad, Start}
+use Rattle.plane.proofs.read_in_space.Goals.{After-begin, In-Err, Start}
 
 -- the first bad one of the four
-bad_first : (c : In-Bad) → bad c.in-Bad.place ≡ globe_child (take 4 (map digit_of ((plane_in true c.args.level c.args.code.now))))
-bad_first c = ap first_read (sym c.in-Bad.is) ∙ (let it : first_read c.begin.result ≡ globe_child (take 4 (map digit_of ((plane_in true c.args.level c.args.code.now)))) = c.begin.ensures.0 ∙ ap globe_child (sym (first_digits_law true c.args.level c.args.code.now c.requires.some c.requires.most c.requires.long)) in it)
+bad_first : (c : In-Err) → bad c.in-Err.place ≡ globe_child (take 4 (map digit_of ((plane_in true c.args.level c.args.code.now))))
+bad_first c = ap first_read (sym c.in-Err.is) ∙ (let it : first_read c.begin.result ≡ globe_child (take 4 (map digit_of ((plane_in true c.args.level c.args.code.now)))) = c.begin.ensures.0 ∙ ap globe_child (sym (first_digits_law true c.args.level c.args.code.now c.requires.some c.requires.most c.requires.long)) in it)
 
 known : (c : Start) → Leveled (length ((plane_in true c.args.level c.args.code.now))) c.args.level
 known c = let p = c.requires in
@@ -26,21 +27,21 @@ led c = c.begin.ensures.0 ∙ ap globe_child (sym (first_digits_law true c.args.
 pub begin-requires : goal.begin-requires
 begin-requires c = omega (arith, c.requires.long, four_in c.args.level c.requires.some c.requires.most)
 
-pub rest_in_space-requires : goal.rest_in_space-requires
-rest_in_space-requires c = let p = c.requires in
-    let r = subst Ranged c.in-Sheet.is c.begin.ensures.1 in
+pub rest-requires : goal.rest-requires
+rest-requires c = let p = c.requires in
+    let r = subst Ranged (c.in-Ok.is ∙ ap Ok c.in-Sheet.is) c.begin.ensures.1 in
     record { some_level = p.some; last_level = p.most; some_zone = r.0; last_zone = r.1; last_row = r.2; length_is = p.long }
 
 pub wrong_in-requires : goal.wrong_in-requires
-wrong_in-requires c = has_inside (first_has true c.args.level c.args.code.now c.requires.some c.requires.most c.requires.long (bad_first (goal.at.wrong_in-requires c).In-Bad))
+wrong_in-requires c = has_inside (first_has true c.args.level c.args.code.now c.requires.some c.requires.most c.requires.long (bad_first (goal.at.wrong_in-requires c).In-Err))
 
 pub returns-in-Sheet : goal.returns-in-Sheet
 returns-in-Sheet c = let s = c in
-    read_rest ((plane_in true c.args.level c.args.code.now)) (known (goal.at.returns-in-Sheet c).Start) (ap first_read (sym c.in-Sheet.is) ∙ led (goal.at.returns-in-Sheet c).After-begin) c.rest_in_space.ensures
+    read_rest ((plane_in true c.args.level c.args.code.now)) (known (goal.at.returns-in-Sheet c).Start) (ap first_read (sym (c.in-Ok.is ∙ ap Ok c.in-Sheet.is)) ∙ led (goal.at.returns-in-Sheet c).After-begin) c.rest.ensures
 
 pub returns-in-Pole : goal.returns-in-Pole
 returns-in-Pole c = let s = c in
-    read_rest ((plane_in true c.args.level c.args.code.now)) (known (goal.at.returns-in-Pole c).Start) (ap first_read (sym c.in-Pole.is) ∙ led (goal.at.returns-in-Pole c).After-begin) c.rest_in_space-in-Pole.ensures
+    read_rest ((plane_in true c.args.level c.args.code.now)) (known (goal.at.returns-in-Pole c).Start) (ap first_read (sym (c.in-Ok.is ∙ ap Ok c.in-Pole.is)) ∙ led (goal.at.returns-in-Pole c).After-begin) c.rest-in-Pole.ensures
 
-pub returns-in-Bad : goal.returns-in-Bad
-returns-in-Bad c = first_refused true c.args.level c.args.code.now c.requires.some c.requires.most c.requires.long (bad_first (goal.at.returns-in-Bad c).In-Bad) c.wrong_in.ensures
+pub returns-in-Err : goal.returns-in-Err
+returns-in-Err c = first_refused true c.args.level c.args.code.now c.requires.some c.requires.most c.requires.long (bad_first (goal.at.returns-in-Err c).In-Err) c.wrong_in.ensures

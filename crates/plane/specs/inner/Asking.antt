@@ -1,33 +1,22 @@
 -- What a position writer is asked for, once refusals 1, 2 and 3 are decided, and what is needed to write it.
 -- Assumes nothing.
-use Rattle.std.specs.Prelude.{ℕ, ◌<◌, ◌≤◌, Bool, List, length, ℤ}
+use Rattle.std.specs.Prelude.{ℕ, ◌<◌, ◌≤◌, Bool, List, Option, Some, None, Result, Ok, Err, length, ℤ}
 use Rattle.grid.specs.declared.Place.{Place}
 use Rattle.grid.specs.declared.Refusal.{Refusal}
-use Rattle.grid.specs.Units.{HALF, QUARTER, unit, Square}
+use Rattle.grid.specs.Units.{HALF, QUARTER, Square}
 use Rattle.grid.specs.Answers.{Answer, accepted, refused}
 use Rattle.grid.specs.inner.Roads.{square_of}
 use Rattle.grid.specs.inner.Standing.{length_in}
-use Rattle.plane.specs.declared.AskedLevel.{AskedLevel}
-use Rattle.plane.specs.declared.AskedLevel.TheVariants as level
-use Rattle.plane.specs.declared.Standing.{Standing}
-use Rattle.plane.specs.declared.Standing.TheVariants as standing
-use Rattle.plane.specs.declared.AskedPosition.{AskedPosition}
-use Rattle.plane.specs.declared.AskedPosition.TheVariants as position
-
--- the level that was asked for, or the refusal
-abbrev pub level_asked : AskedLevel → Answer ℕ
-level_asked (level.At l) = accepted l
-level_asked (level.Refused r) = refused r
 
 -- the unit that a number stands for, or the refusal of a number outside its range
-abbrev pub standing_answer : Refusal → Standing → Answer ℤ
-standing_answer r (standing.At up x) = accepted (unit up x)
-standing_answer r standing.Outside = refused r
+abbrev pub standing_answer : Refusal → Option ℤ → Answer ℤ
+standing_answer r (Some u) = accepted u
+standing_answer r None = refused r
 
 -- the square of the place that was asked for, or the refusal
-abbrev pub position_asked : AskedPosition → Answer Square
-position_asked (position.At p) = accepted (square_of p)
-position_asked (position.Refused r) = refused r
+abbrev pub position_asked : Result Place Refusal → Answer Square
+position_asked (Ok p) = accepted (square_of p)
+position_asked (Err r) = refused r
 
 -- the place that has these parts
 abbrev pub place_at : Bool → Bool → ℕ → ℕ → Place

@@ -1,14 +1,11 @@
 -- What a cursor of a polar code means, where one level's characters lead, and what reading some levels finds.
 -- Assumes nothing.
-use Rattle.std.specs.Prelude.{◌≡◌, Bool, true, false, cond, List, map, ℕ, ◌+◌, ◌-◌, ◌*◌, ◌/◌, ltb, eqb, get_or, take, drop}
+use Rattle.std.specs.Prelude.{Bool, cond, List, map, ℕ, zero, suc, ◌+◌, ◌-◌, ◌*◌, ◌/◌, ◌≤◌, leb, length, take, drop, Result, Ok, Err}
 use Rattle.grid.specs.declared.Split.{Split}
-use Rattle.grid.specs.declared.Cell.{Cell}
 use Rattle.grid.specs.Units.{TURN}
 use Rattle.grid.specs.Characters.{digit_of}
-use Rattle.grid.specs.Tree.{Read, ok, bad, guard, shift, follow}
-use Rattle.grid.specs.Answers.{Answer}
-use Rattle.grid.specs.Codes.{answer}
-use Rattle.grid.specs.Splits.{first, second, splits, split_at}
+use Rattle.grid.specs.Tree.{Read, ok, bad, guard, next}
+use Rattle.grid.specs.Splits.{second, split_at}
 use Rattle.grid.specs.Plane.{
   Frame,
   belt,
@@ -25,13 +22,10 @@ use Rattle.grid.specs.Plane.{
   sub,
   ring_node,
   allowed,
-  pole_width,
   pole_height,
-  polar_node,
   child_of,
-  plane,
-  plane_codes,
 }
+use Rattle.grid.specs.inner.Roads.{place_of}
 use Rattle.grid.specs.inner.Standing.{level_place}
 use Rattle.polar_read.specs.declared.Cursor.{Cursor}
 
@@ -50,41 +44,15 @@ abbrev pub node_of : Cursor → Node
 node_of c = cond c.cap (cap c.north c.h) (cell (frame_of c) (polar_box c))
 
 -- what was read: the cell, or the place of the first character that is not allowed
-abbrev pub polar_reading : Cursor → Read Node
-polar_reading c = cond c.good (ok (node_of c)) (bad c.place)
-
--- N000 or S000, seen as a cap of two degrees
-abbrev pub start_of : Bool → Cursor
-start_of n =
-    record { good = true; place = first.length; north = n; cap = true; disc = true; east = true; x = 0; w = pole_width; y = 0; h = pole_height }
-
--- a cell of the disc that goes all round the pole
-pub record AllRound (c : Cursor) : Type 0 where
-  pub in_disc : c.disc ≡ true
-  pub west : c.x ≡ 0
-  pub wide : c.w ≡ TURN
-  pub inner : c.y ≡ 0
-
--- a cap does
-abbrev pub Round : Cursor → Type 0
-Round c = c.cap ≡ true → AllRound c
-
--- the cursor c has read r about a pole, and reads on at a place
-pub record HasRead (north : Bool) (at : ℕ) (r : Read Node) (c : Cursor) : Type 0 where
-  pub means : polar_reading c ≡ r
-  pub placed : c.good ≡ true → c.place ≡ at
-  pub sided : c.north ≡ north
-  pub round : Round c
+abbrev pub polar_reading : Result Cursor ℕ → Read Node
+polar_reading (Ok c) = ok (node_of c)
+polar_reading (Err p) = bad p
 
 -- ---- one division
 
 -- into how many columns the cursor's cell divides
 abbrev pub columns_of : Cursor → Split → ℕ
 columns_of c s = cond c.cap s.ring s.columns
-
--- row r of the cursor's cell is the new cap
-abbrev pub inmost_of : Cursor → ℕ → Bool
-inmost_of c r = cond c.cap (eqb r 0) false
 
 -- how the cursor's cell divides
 abbrev pub divided : Cursor → Split → Part
@@ -108,43 +76,42 @@ polar_child c s i j =
 abbrev pub settled_of : Cursor → Split → ℕ → ℕ → ℕ → Read Node
 settled_of c s i j at = guard at (allowed c.cap (divided c s) i j) (ok (polar_child c s i j))
 
--- the characters of level k + 1, whose split is s, in the code w
-abbrev pub level_among : Bool → ℕ → Split → List ℕ → List ℕ
-level_among spaced k s w = take s.characters (drop (level_place spaced k s) w)
+-- a level of one character has at most five columns and rows, one of two at most fifteen
+pub record PolarDigits (s : Split) : Type 0 where
+  pub columns : s.columns ≤ 10 * s.characters - 5
+  pub ring : s.ring ≤ 10 * s.characters - 5
+  pub inward : s.inward ≤ 10 * s.characters - 5
+  pub some : 1 ≤ s.characters
+  pub most : s.characters ≤ 2
+  pub placed : s.characters ≤ s.length
+  pub near : s.length ≤ 20
 
--- where the next level's characters lead from the cursor's cell
-unfoldable pub polar_step : Cursor → Split → List ℕ → Read Node
-polar_step c s w = shift c.place (child_of s (node_of c) (map digit_of w))
+-- ---- one level's characters, where the code w has them
 
--- the cursor m has read r, one level of split s on from c
-abbrev pub Moved : Cursor → Split → Read Node → Cursor → Type 0
-Moved c s r m = HasRead c.north (c.place + s.characters) r m
+-- the digits of the level s, whose characters begin at a place of the code w
+abbrev pub polar_level_digits : Split → ℕ → List ℕ → List ℕ
+polar_level_digits s at w = map digit_of (take s.characters (drop at w))
 
--- ---- level 2
+-- what follows where the code has the level s, whose characters begin at a place, and what where it has not
+abbrev pub where_has : Split → ℕ → List ℕ → Read Node → Read Node → Read Node
+where_has s at w r q = cond (leb (at + s.characters) (length w)) r q
 
--- the polar cell that two digits name; 16 where the first is not below 4, 17 where the second is not
-abbrev pub named_by : ℕ → ℕ → ℕ
-named_by i j = cond (ltb i 4) (cond (ltb j 4) (4 * i + j) 17) 16
+-- where the level's characters lead from a node; a bad one's place is the one in a plane code
+abbrev pub led : Split → ℕ → List ℕ → Read Node → Read Node
+led s at w r = next (place_of s) r (λ n. child_of s n (polar_level_digits s at w))
 
--- the one that the characters of level 2 in the code w name
-unfoldable pub named_in : Bool → List ℕ → ℕ
-named_in spaced w = named_by (digit_of (get_or w (level_place spaced 1 second) 0)) (digit_of (get_or w (level_place spaced 1 second + 1) 0))
+-- what was read, and then level k + 1
+abbrev pub polar_level_on : Bool → List ℕ → ℕ → Read Node → Read Node
+polar_level_on spaced w k r =
+    where_has (split_at k) (level_place spaced k (split_at k)) w (led (split_at k) (level_place spaced k (split_at k)) w r) r
 
--- what was read where they name k: that polar cell, or the place of the one that is not allowed
-abbrev pub named_read : Bool → ℕ → Read Node
-named_read n k = cond (ltb k 16) (ok (polar_node n k)) (bad (first.length + (k - 16)))
+-- level 2 from N000 or S000 on, which is seen as a cap where the code ends there
+abbrev pub second_read : Bool → Bool → List ℕ → Read Node
+second_read spaced n w =
+    where_has second (level_place spaced 1 second) w (led second (level_place spaced 1 second) w (ok (pole n))) (ok (cap n pole_height))
 
--- ---- a whole code
-
--- what reading the levels 2 to l of the code w finds, from N000 or S000 on
-unfoldable pub so_far : Bool → ℕ → List ℕ → Read Node
-so_far n l w = shift 4 (follow plane (drop 1 (take l splits)) (pole n) (map digit_of (drop 4 w)))
-
--- the cursor has read the levels 2 to l of the code w
-abbrev pub PolarReached : ℕ → List ℕ → Cursor → Type 0
-PolarReached l w c = HasRead c.north (split_at (l - 1)).length (so_far c.north l w) c
-
--- what a reader of the code w of level l answers
-unfoldable pub polar_answer : List ℕ → ℕ → Read Node → Answer Cell
-unfolding plane_codes
-polar_answer w l r = answer plane_codes w l r
+-- N000 or S000, and then the levels after it, as far as level k + 1
+abbrev pub polar_read_to : Bool → Bool → List ℕ → ℕ → Read Node
+polar_read_to spaced n w zero = ok (cap n pole_height)
+polar_read_to spaced n w (suc zero) = second_read spaced n w
+polar_read_to spaced n w (suc (suc k)) = polar_level_on spaced w (suc (suc k)) (polar_read_to spaced n w (suc k))

@@ -1,22 +1,19 @@
 -- Where a polar square stands in its cell from level 2 on, how one level moves it on, and what the functions of the writer are given and leave.
 -- A cell that is no cap is seen as wide as it is high: x counts its width in as many parts as it has units of height.
 -- Assumes nothing.
-use Rattle.std.specs.Prelude.{◌≡◌, Bool, true, false, List, [], ◌∷◌, map, ℕ, zero, suc, ◌+◌, ◌-◌, ◌/◌, ◌%◌, ◌≤◌, ◌<◌, min, length}
-use Rattle.std.proofs.lemmas.List.Edits.{sets}
+use Rattle.std.specs.Prelude.{◌≡◌, Bool, true, List, [], ◌∷◌, map, ℕ, zero, suc, ◌+◌, ◌-◌, ◌/◌, ◌%◌, ◌≤◌, ◌<◌, length}
+use Rattle.grid.specs.declared.Digits.{Digits}
 use Rattle.grid.specs.declared.Split.{Split}
 use Rattle.grid.specs.declared.Place.{Place}
 use Rattle.grid.specs.Units.{TURN, HALF, QUARTER, POLAR, eastward, from_pole, Square}
 use Rattle.grid.specs.Splits.{polar_cell_at}
-use Rattle.grid.specs.inner.Roads.{square_of, level_chars, LevelFits}
-use Rattle.grid.specs.inner.Standing.{level_place, length_in, stands_at, spread}
+use Rattle.grid.specs.inner.Roads.{square_of}
+use Rattle.grid.specs.inner.Standing.{length_in}
 use Rattle.grid.specs.Characters.{char_of}
-use Rattle.grid.specs.Plane.{Node, globe, pole, cell, cap, x_in, y_in, letter, polar_holds, polar_cell_of, polar_node, code_of}
+use Rattle.grid.specs.Plane.{Node, globe, pole, cell, cap, x_in, y_in, letter, polar_holds, polar_cell_of, polar_node}
 use Rattle.polar_write.specs.declared.Spot.{Spot}
+use Rattle.polar_write.specs.declared.Spot.TheVariants as spot
 use Rattle.polar_write.specs.declared.Step.{Step}
-
--- in a cap or not, and where
-abbrev pub spot : Bool → ℕ → ℕ → Spot
-spot c x y = record { cap = c; x = x; y = y }
 
 -- columns, the column and the row, and where in that child
 abbrev pub step : ℕ → ℕ → ℕ → Spot → Step
@@ -25,10 +22,10 @@ step n c r s = record { digits = record { columns = n; column = c; row = r }; re
 -- where a square stands in a node: in a cap eastward and from the pole, in another cell from its corner in its own frame.
 -- The globe and N000 and S000 have no spots
 unfoldable pub spot_in : Node → Square → Spot
-spot_in globe s = spot false 0 0
-spot_in (pole n) s = spot false 0 0
-spot_in (cell f b) s = spot false ((x_in f s - b.x) / (b.w / b.h)) (y_in f s - b.y)
-spot_in (cap n h) s = spot true (eastward s.longitude) (from_pole s.latitude)
+spot_in globe s = spot.Cell 0 0
+spot_in (pole n) s = spot.Cell 0 0
+spot_in (cell f b) s = spot.Cell ((x_in f s - b.x) / (b.w / b.h)) (y_in f s - b.y)
+spot_in (cap n h) s = spot.Cap (eastward s.longitude) (from_pole s.latitude)
 
 -- the width of a column of a cap's ring
 abbrev pub ring_width : Split → ℕ
@@ -36,18 +33,18 @@ ring_width t = TURN / t.ring
 
 -- a cap, e eastward and q from the pole: row 0 is the new cap, another row leaves it
 abbrev pub cap_step : Split → ℕ → ℕ → ℕ → Step
-cap_step t e q zero = step t.ring 0 0 (spot true e q)
+cap_step t e q zero = step t.ring 0 0 (spot.Cap e q)
 cap_step t e q (suc r) =
-    step t.ring (e / ring_width t) (suc r) (spot false (e % ring_width t / (ring_width t / t.width)) (q % t.width))
+    step t.ring (e / ring_width t) (suc r) (spot.Cell (e % ring_width t / (ring_width t / t.width)) (q % t.width))
 
 -- one level: near a pole the children of every cell are as high as the table's width
-abbrev pub step_as : Bool → Split → ℕ → ℕ → Step
-step_as true t x y = cap_step t x y (y / t.width)
-step_as false t x y = step t.columns (x / t.width) (y / t.width) (spot false (x % t.width) (y % t.width))
-
--- the step of a spot
 unfoldable pub spot_step : Split → Spot → Step
-spot_step t s = step_as s.cap t s.x s.y
+spot_step t (spot.Cap e q) = cap_step t e q (q / t.width)
+spot_step t (spot.Cell x y) = step t.columns (x / t.width) (y / t.width) (spot.Cell (x % t.width) (y % t.width))
+
+-- the digits of the polar cell k: of four columns, and four rows
+abbrev pub polar_digits : ℕ → Digits
+polar_digits k = record { columns = 4; column = k / 4; row = k % 4 }
 
 -- N000 or S000
 abbrev pub first_chars : Bool → List ℕ
@@ -58,17 +55,6 @@ pub record SpotDivides (t : Split) : Type 0 where
   pub wide : 0 < t.width
   pub round : 0 < t.ring
   pub parts : 0 < ring_width t / t.width
-
--- level k + 1, whose split is t, can be gone down and written
-pub record SpotReady (spaced : Bool) (level k : ℕ) (t : Split) (s : Spot) (line : List ℕ) : Type 0 where
-  pub divides : SpotDivides t
-  pub placed : (k < 10) × (t.characters ≤ t.length) × (t.length ≤ 20)
-  pub fits : LevelFits level k t (spot_step t s).digits line (level_place spaced k t)
-
--- gone down: the spot is moved, and the level's characters are laid down
-pub record Gone (spaced : Bool) (level k : ℕ) (t : Split) (s : Spot) (before after : List ℕ) (r : Spot) : Type 0 where
-  pub moved : r ≡ (spot_step t s).rest
-  pub laid : after ≡ sets before (level_place spaced k t) (level_chars level k t (spot_step t s).digits)
 
 -- a polar place
 pub record Polar (p : Place) : Type 0 where
@@ -90,8 +76,7 @@ pub record LiesInColumn (k : ℕ) (p : Place) : Type 0 where
 
 -- the place's polar cell, by its two digits, and where the place stands in it
 pub record Begun (p : Place) (r : Step) : Type 0 where
-  pub first : r.digits.column ≡ polar_cell_of (square_of p) / 4
-  pub second : r.digits.row ≡ polar_cell_of (square_of p) % 4
+  pub digits : r.digits ≡ polar_digits (polar_cell_of (square_of p))
   pub stands : r.rest ≡ spot_in (polar_node p.north (polar_cell_of (square_of p))) (square_of p)
 
 -- what the writer is called with
@@ -100,8 +85,3 @@ pub record PolarWritable (spaced : Bool) (level : ℕ) (p : Place) (line : List 
   pub level_high : level ≤ 10
   pub polar : Polar p
   pub room : length_in spaced level ≤ length line
-
--- the first two levels are written, as far as the level goes, and the place stands in its polar cell
-pub record SpotStarted (spaced : Bool) (level : ℕ) (p : Place) (before after : List ℕ) (r : Spot) : Type 0 where
-  pub stands : r ≡ spot_in (polar_node p.north (polar_cell_of (square_of p))) (square_of p)
-  pub laid : after ≡ spread (stands_at spaced) 0 (code_of (min level 2) (square_of p)) before

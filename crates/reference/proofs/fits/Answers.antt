@@ -7,8 +7,8 @@ use Rattle.grid.specs.Units.{index}
 use Rattle.reference.proofs.Parts.{fit_coarse, fit_fine}
 use Rattle.reference.proofs.fits.Goals as goal
 
-pub returns-then-c-lt5 : goal.returns-then-c-lt5
-returns-then-c-lt5 c = fit_coarse c.args.c c.if-c-lt5.true
+pub returns-then-c-ge5 : goal.returns-then-c-ge5
+returns-then-c-ge5 c = fit_fine c.args.c c.if-c-ge5.true (c.outward.ensures ∙ ap index (to_z-of_z {w = w32} {z = c.args.c.south} (search rules)))
 
-pub returns : goal.returns
-returns c = fit_fine c.args.c c.if-c-lt5.false (c.outward.ensures ∙ ap index (to_z-of_z {w = w32} {z = c.args.c.south} (search rules)))
+pub returns-else-c-ge5 : goal.returns-else-c-ge5
+returns-else-c-ge5 c = fit_coarse c.args.c c.if-c-ge5.false

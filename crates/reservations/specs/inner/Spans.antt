@@ -1,12 +1,9 @@
--- The higher and the lower of two whole numbers.
+-- The test of two ranges of whole numbers, as it is computed.
 -- Assumes nothing.
-use Rattle.std.specs.Prelude.{cond, ℤ}
+use Rattle.std.specs.Prelude.{Bool, ℤ}
+use Rattle.std.specs.Int.{int_max, int_min}
 use Rattle.std.specs.Int.Signed.{lt_z}
 
--- the higher of the two
-abbrev pub higher : ℤ → ℤ → ℤ
-higher a b = cond (lt_z a b) b a
-
--- the lower of the two
-abbrev pub lower : ℤ → ℤ → ℤ
-lower a b = cond (lt_z a b) a b
+-- the numbers from a to b and those from c to d, the ends not included, have one in common: the higher beginning stands below the lower end
+abbrev pub spans_meet : ℤ → ℤ → ℤ → ℤ → Bool
+spans_meet a b c d = lt_z (int_max a c) (int_min b d)

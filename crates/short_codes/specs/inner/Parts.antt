@@ -1,19 +1,11 @@
 -- What the parts of the reader of short codes answer to each other.
 -- Assumes nothing.
-use Rattle.std.specs.Prelude.{true, List, ◌≡◌, ℕ, ◌+◌, ◌≤◌, length}
+use Rattle.std.specs.Prelude.{List, ℕ, ◌+◌, ◌≤◌, length}
 use Rattle.grid.specs.Answers.{Answer, refused, refusal, and_then}
 use Rattle.grid.specs.Plane.{cell_of}
 use Rattle.places.specs.declared.Spot.{Spot}
-use Rattle.reference.specs.Offsets.{offset_digit}
-use Rattle.reference.specs.declared.Offset.{Offset}
-use Rattle.reference.specs.declared.Offset.TheVariants.{By, Refused}
 use Rattle.reference.specs.inner.Parts.{target_from}
 use Rattle.short_codes.specs.Text.{code_at}
-
--- M and N, if there are any, are digits of offsets
-abbrev pub Digits : Offset → Type 0
-Digits (By m n) = (offset_digit m ≡ true) × (offset_digit n ≡ true)
-Digits (Refused r) = Unit {0}
 
 -- an entry at the spot lies in the book
 abbrev pub SpotInside : List ℕ → Spot → Type 0

@@ -1,13 +1,22 @@
 -- `space::level_of` meets its contract. Assumes nothing.
-use native.Mathlib.Omega.{arith}
-use Rattle.space.proofs.Tables.{level_at, level_none}
+use Rattle.std.proofs.Common.{◌≡◌, ◌<◌, ◌≤◌, get_or, arith, inl, inr}
+use Rattle.std.proofs.lemmas.Grind.{common_steps}
+use Rattle.space.proofs.Tables.{levels, level_at, level_none}
 use Rattle.space.proofs.level_of.Goals as goal
 
-pub overflow_cast-result : goal.overflow_cast-result
-overflow_cast-result c = omega (arith, (level_at c.args.n c.if-n-lt33.true).small)
+pub returns-in-Some : goal.returns-in-Some
+returns-in-Some c =
+    let h : c.args.n < 33 = grind (arith, common_steps) in
+    let e : c.in-Some.level.now ≡ get_or levels c.args.n 0 = grind (arith, common_steps) in
+    rw e (level_at c.args.n h (rw e at c.if-level-gt0.true))
 
-pub returns-then-n-lt33 : goal.returns-then-n-lt33
-returns-then-n-lt33 c = (level_at c.args.n c.if-n-lt33.true).same
+pub returns-in_default : goal.returns-in_default
+returns-in_default c =
+    let h : c.args.n < 33 = grind (arith, common_steps) in
+    let e : c.in-Some.level.now ≡ get_or levels c.args.n 0 = grind (arith, common_steps) in
+    level_none c.args.n (inr (h, omega arith))
 
-pub returns-else-n-lt33 : goal.returns-else-n-lt33
-returns-else-n-lt33 c = level_none _ c.if-n-lt33.false
+pub returns-in_default-2 : goal.returns-in_default-2
+returns-in_default-2 c =
+    let h : 33 ≤ c.args.n = grind (arith, common_steps) in
+    level_none c.args.n (inl h)

@@ -1,6 +1,6 @@
 -- The two parts of a space code, its plane characters and its height characters: how they are woven, and what both readers answer together.
 -- Assumes nothing.
-use Rattle.std.specs.Prelude.{true, false, cond, List, [], ◌∷◌, ℕ, ◌<◌, ltb, ℤ}
+use Rattle.std.specs.Prelude.{true, false, cond, List, [], ◌∷◌, ℕ, ◌<◌, ltb, ℤ, Option, Result, Ok, Err}
 use Rattle.grid.specs.declared.Refusal.{Refusal}
 use Rattle.grid.specs.declared.Split.{Split}
 use Rattle.grid.specs.declared.SpaceCell.{SpaceCell}
@@ -13,14 +13,12 @@ use Rattle.grid.specs.inner.Roads.{at_place}
 use Rattle.grid.specs.inner.Standing.{plane_place, height_place}
 use Rattle.grid.specs.Layers.{Stack, floor_of, thickness_of}
 use Rattle.grid.specs.Space.{space_lengths}
-use Rattle.plane.specs.inner.Lengths.{or_zero}
-use Rattle.space.specs.declared.Heights.{Heights}
-use Rattle.space.specs.declared.Heights.TheVariants as heights
+use Rattle.plane.specs.inner.Lengths.{found}
 use Rattle.space.specs.inner.Weave.{Strand}
 
--- the level of the space codes that are n bytes long; 0 where there is none
-unfoldable pub space_level_of : ℕ → ℕ
-space_level_of n = or_zero (place_in n 1 space_lengths)
+-- the level of the space codes that are n bytes long, if there are any
+unfoldable pub space_level_of : ℕ → Option ℕ
+space_level_of n = found (place_in n 1 space_lengths)
 
 -- a level after the first: its plane characters, then one height character
 abbrev pub later_strands : List Split → List Strand
@@ -50,14 +48,14 @@ heights_in top (ok m) = ok (floor_of top m, thickness_of top m)
 heights_in top (bad p) = bad (height_place p)
 
 -- the same as the code has it
-abbrev pub heights_read : Heights → Read (ℤ × ℕ)
-heights_read (heights.Found floor thick) = ok (floor, thick)
-heights_read (heights.Bad p) = bad p
+abbrev pub heights_read : Result (ℤ × ℕ) ℕ → Read (ℤ × ℕ)
+heights_read (Ok h) = ok h
+heights_read (Err p) = bad (height_place p)
 
--- a bad character's place lies in a code of n characters
-abbrev pub BadWithin : ℕ → Heights → Type 0
-BadWithin n (heights.Found floor thick) = Unit {0}
-BadWithin n (heights.Bad p) = p < n
+-- a bad height character is one of twelve, and stands in a code of n characters
+abbrev pub BadWithin : ℕ → Result (ℤ × ℕ) ℕ → Type 0
+BadWithin n (Ok h) = Unit {0}
+BadWithin n (Err p) = (p < 12) × (height_place p < n)
 
 -- what the plane reader answers and the height reader finds in the space code w, together: the cell with its layers, or the first bad character of either
 abbrev pub joined_answer : List ℕ → Answer Cell → Read (ℤ × ℕ) → Answer SpaceCell

@@ -1,11 +1,9 @@
--- `polar_read::Cursor::second` meets its contract. By whether a polar cell is named. Assumes nothing.
-use mathlib.Core.Path.{refl}
-use borrow.Author.Tests.{lt-ltb, le-ltb}
-use Rattle.polar_read.proofs.Division.{reads_as}
+-- `Cursor::second` meets its contract. Assumes nothing.
+use mathlib.Core.Path.{sym, ◌∙◌, ap}
+use Rattle.grid.specs.Tree.{ok}
+use Rattle.polar_read.specs.inner.Naming.{named_read}
+use Rattle.polar_read.proofs.Levels.{second_there}
 use Rattle.polar_read.proofs.Cursor.second.Goals as goal
 
-pub returns-then-k-ge16 : goal.returns-then-k-ge16
-returns-then-k-ge16 c = reads_as (rw (c.requires.1, le-ltb c.args.k 16 c.if-k-ge16.true) refl) (c.stopped.ensures _)
-
 pub returns : goal.returns
-returns c = reads_as (rw (lt-ltb c.args.k 16 c.if-k-ge16.false) refl) c.polar.ensures
+returns g c = ap ok c.polar.ensures ∙ second_there _ c.split_of-s.ensures c.level_place-at.ensures c.args.code.now c.if-code-at.false c.args.self.north (sym (ap named_read c.in_ok-k.was) ∙ c.named.ensures)

@@ -1,8 +1,0 @@
--- `hailgully::part_found` meets its contract. Assumes nothing.
-use mathlib.Core.Path.{refl}
-use Rattle.hailgully.specs.Results.{part_for}
-use Rattle.hailgully.proofs.part_found.Goals as goal
-
-pub returns : goal.returns
-unfolding part_for
-returns c = rw c.no_refusal.ensures refl
