@@ -2,15 +2,14 @@
 // Bytes come in any pieces. The line so far is kept in a buffer, and the answers are laid into another as long as there is room.
 #![tactic(auto)]
 
-ghost use Rattle.std.specs.Prelude.{◌≡◌, ℕ, ◌+◌, ◌^◌, ◌≤◌, ◌<◌, List, [], ◌∷◌, ◌++◌, length, take};
+ghost use Rattle.std.specs.Prelude.{◌≡◌, ◌+◌, ◌^◌, ◌≤◌, ◌<◌, [], ◌∷◌, length, take};
 ghost use Rattle.grid.specs.Answers.{answer_of};
 ghost use Rattle.lines.specs.Text.{decimal_of, number_text, signed_text, cell_text, refusal_text, answer_text};
 ghost use Rattle.lines.specs.Lines.{line_text, last_line, lines_text};
 ghost use Rattle.lines.specs.Filling.{ROOM, work, start, on_byte, fill};
-ghost use Rattle.lines.specs.inner.Buffers.{Laid, MarksWithin, Lent};
+ghost use Rattle.lines.specs.inner.Buffers.{Laid, LongerBy, MarksWithin, Lent};
 
 use grid::{Cell, Refusal};
-use std::marker::Model;
 
 // How far the work has come: the next byte of the input, how many bytes of the line are held, and where the next answer goes.
 #[derive(Clone, Copy)]
@@ -20,130 +19,100 @@ pub struct Marks {
     pub at: usize,
 }
 
-// The text of one answer: what is put down of it so far, in a buffer with room for the longest.
+// The text of an answer as it is laid into a lent output: where its next byte goes.
 #[derive(Drop)]
-struct Text {
-    bytes: [u8; 128],
-    len: usize,
+struct Text<'a> {
+    out: &'a mut [u8],
+    at: usize,
 }
 
-impl Model for Text {
-    ghost Value = { List ℕ };
-
-    ghost view = { λ t. take t.len t.bytes };
-
-    ghost invariant = { λ t. t.len ≤ 128 };
+// A number in decimal: the digits of its tenth, and then its last. Numbers are put down digit by digit: `write!` says which bytes it wrote only where
+// it returns Ok, and nothing says when it does, while `fill` and `finish` promise every byte of every answer. (The kit's `itoa` would serve, and be one
+// more crate to stand on.) The place travels in a register: as a method of `Text` this leaves it in memory at each digit, and an empty line's answer
+// takes 5/3 of the time.
+fn put_decimal(n: u64, out: &mut [u8], at: usize) -> usize
+    requires { at + 20 ≤ length out.old }
+    ensures { Laid out.old at (decimal_of n) result out.new }
+{
+    if n < 10 {
+        out[at] = b'0' + n as u8;
+        return at + 1;
+    }
+    let end = put_decimal(n / 10, out, at);
+    out[end] = b'0' + (n % 10) as u8;
+    end + 1
 }
 
-// Numbers are put down digit by digit: `write!` says which bytes it wrote only where it returns Ok, and nothing says when it does, while `fill` and
-// `finish` promise every byte of every answer. (The kit's `itoa` would serve, and be one more crate to stand on.)
-impl Text {
-    // A text that has not begun.
-    fn new() -> Self
-        ensures { result ≡ [] }
-    {
-        Text {
-            bytes: [0; 128],
-            len: 0,
-        }
-    }
-
-    // What is put down.
-    fn as_bytes(&self) -> &[u8]
-        ensures { result.now ≡ self.now }
-    {
-        &self.bytes[..self.len]
-    }
-
+impl Text<'_> {
     // A byte.
     fn put(&mut self, byte: u8)
-        requires { length self.old < 128 }
-        ensures { self.new ≡ self.old ++ byte ∷ [] }
+        requires { self.old.at + 1 ≤ length self.old.out.now }
+        ensures { LongerBy (byte ∷ []) self.old self.new }
     {
-        self.bytes[self.len] = byte;
-        self.len += 1;
+        self.out[self.at] = byte;
+        self.at += 1;
     }
 
     // A word.
     fn put_all(&mut self, word: &[u8])
-        requires { length self.old + length word.now ≤ 128 }
-        ensures { self.new ≡ self.old ++ word.now }
+        requires { self.old.at + length word.now ≤ length self.old.out.now }
+        ensures { LongerBy word.now self.old self.new }
     {
-        let end = self.len + word.len();
-        self.bytes[self.len..end].copy_from_slice(word);
-        self.len = end;
-    }
-
-    // A number in decimal: the digits of its tenth, and then its last.
-    fn put_decimal(&mut self, n: u64)
-        requires { length self.old + 20 ≤ 128 }
-        ensures { self.new ≡ self.old ++ decimal_of n }
-    {
-        if n < 10 {
-            self.put(b'0' + n as u8);
-            return;
-        }
-        self.put_decimal(n / 10);
-        self.put(b'0' + (n % 10) as u8);
+        let end = self.at + word.len();
+        self.out[self.at..end].copy_from_slice(word);
+        self.at = end;
     }
 
     // A number and the byte after it.
     fn put_number(&mut self, n: u64, end: u8)
-        requires { length self.old + 21 ≤ 128 }
-        ensures { self.new ≡ self.old ++ number_text n end }
+        requires { self.old.at + 21 ≤ length self.old.out.now }
+        ensures { LongerBy (number_text n end) self.old self.new }
     {
-        self.put_decimal(n);
+        self.at = put_decimal(n, self.out, self.at);
         self.put(end);
     }
 
     // A signed number and the byte after it.
     fn put_signed(&mut self, z: i32, end: u8)
-        requires { length self.old + 22 ≤ 128 }
-        ensures { self.new ≡ self.old ++ signed_text z end }
+        requires { self.old.at + 22 ≤ length self.old.out.now }
+        ensures { LongerBy (signed_text z end) self.old self.new }
     {
         if z < 0 {
             self.put(b'-');
         }
         self.put_number(u64::from(z.unsigned_abs()), end);
     }
-}
 
-// refused number place
-impl From<Refusal> for Text {
-    ghost from_gives = { λ r text. text ≡ refusal_text r };
-
-    fn from(refusal: Refusal) -> Self {
-        let mut text = Text::new();
-        text.put_all(b"refused ");
-        text.put_number(u64::from(refusal.number), b' ');
-        text.put_number(refusal.place as u64, b'\n');
-        text
+    // refused number place
+    fn put_refusal(&mut self, refusal: Refusal)
+        requires { self.old.at + ROOM ≤ length self.old.out.now }
+        ensures { LongerBy (refusal_text refusal) self.old self.new }
+    {
+        self.put_all(b"refused ");
+        self.put_number(u64::from(refusal.number), b' ');
+        self.put_number(refusal.place as u64, b'\n');
     }
-}
 
-// level west south width height
-impl From<Cell> for Text {
-    ghost from_gives = { λ c text. text ≡ cell_text c };
-
-    fn from(cell: Cell) -> Self {
-        let mut text = Text::new();
-        text.put_number(u64::from(cell.level), b' ');
-        text.put_signed(cell.west, b' ');
-        text.put_signed(cell.south, b' ');
-        text.put_number(u64::from(cell.width), b' ');
-        text.put_number(u64::from(cell.height), b'\n');
-        text
+    // level west south width height
+    fn put_cell(&mut self, cell: Cell)
+        requires { self.old.at + ROOM ≤ length self.old.out.now }
+        ensures { LongerBy (cell_text cell) self.old self.new }
+    {
+        self.put_number(u64::from(cell.level), b' ');
+        self.put_signed(cell.west, b' ');
+        self.put_signed(cell.south, b' ');
+        self.put_number(u64::from(cell.width), b' ');
+        self.put_number(u64::from(cell.height), b'\n');
     }
-}
 
-// One answer with its line feed.
-impl From<Result<Cell, Refusal>> for Text {
-    ghost from_gives = { λ r text. text ≡ answer_text (answer_of r) };
-
-    fn from(r: Result<Cell, Refusal>) -> Self {
+    // One answer with its line feed.
+    fn put_answer(&mut self, r: Result<Cell, Refusal>)
+        requires { self.old.at + ROOM ≤ length self.old.out.now }
+        ensures { LongerBy (answer_text (answer_of r)) self.old self.new }
+    {
         match r {
-            Ok(cell) => Text::from(cell),
-            Err(refusal) => Text::from(refusal),
+            Ok(cell) => self.put_cell(cell),
+            Err(refusal) => self.put_refusal(refusal),
         }
     }
 }
@@ -153,11 +122,9 @@ fn answer(line: &[u8], out: &mut [u8], at: usize) -> usize
     requires { at + ROOM ≤ length out.old }
     ensures { Laid out.old at (line_text line.now) result out.new }
 {
-    let text = Text::from(plane::read(line));
-    let bytes = text.as_bytes();
-    let end = at + bytes.len();
-    out[at..end].copy_from_slice(bytes);
-    end
+    let mut text = Text { out, at };
+    text.put_answer(plane::read(line));
+    text.at
 }
 
 // One byte more of the input.
