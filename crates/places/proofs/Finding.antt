@@ -6,26 +6,25 @@ use mathlib.Core.List.{List, [], ◌∷◌, ◌++◌, append_assoc}
 use mathlib.Core.Option as math
 use mathlib.Core.Option.{some, none}
 use mathlib.Core.Logic.{◌⊎◌, inl, inr, ⊎_elim}
-use Prim.Native.Nat.{ℕ, ◌+◌, ◌-◌, ◌≤◌}
+use Prim.Native.Nat.{ℕ, suc, ◌+◌, ◌-◌, ◌≤◌}
 use native.Mathlib.Omega.{arith}
 use lib.Dec.{eqb}
 use lib.ListN.{length, take, drop, length-append}
 use lib.Seq.{drop_at, take_at, drop-drop}
-use borrow.Author.Tests.{ne_eqb, eqb-true, eqb-false}
-use Rattle.std.specs.Prelude.{Option, Some, None, Result}
-use Rattle.std.specs.Option.{ok_or}
+use borrow.Author.Tests.{ne_eqb, eqb-true}
+use Rattle.std.specs.Prelude.{Ok, Err}
 use Rattle.grid.specs.declared.Refusal.{Refusal}
 use Rattle.grid.specs.Answers.{Answer, accepted, refused, refusal, and_then}
 use Rattle.grid.proofs.Cut.{clash, and_true}
 use Rattle.places.specs.Book.{Entry, bodies, first_body, order, below, BookWith}
 use Rattle.places.specs.Reading.{word_at, fair, sized, entries_of, Bytes}
-use Rattle.places.specs.Finding.{front, back, spot_at, found_here, found_among, well_formed, found_in, part_in, place_found}
+use Rattle.places.specs.Finding.{front, back, spot_at, found_here, found_among, well_formed, found_in, part_in, place_refusal}
 use Rattle.places.specs.Meaning.{Named, spot_of}
-use Rattle.places.specs.inner.Walk.{sought, walked, looked_in}
+use Rattle.places.specs.inner.Walk.{opened, closed, headed, note, notes, noted, looked_in, settled, looked_answer}
 use Rattle.places.specs.declared.NotFound.{NotFound}
-use Rattle.places.specs.declared.NotFound.TheVariants.{NotInBook}
 use Rattle.places.specs.declared.Spot.{Spot}
-use Rattle.places.proofs.Ordering.{order_refl, order_same_is, order_trans, order_turned, order_other}
+use Rattle.places.specs.declared.Seen.{Seen}
+use Rattle.places.proofs.Ordering.{order_refl, order_same_is, order_trans}
 use Rattle.places.proofs.Rising.{rises_from, good_rises}
 use Rattle.places.proofs.Entries.{Made, made_of, entries_sound, entries_complete}
 
@@ -58,28 +57,21 @@ front_is last (d ∷ fs) e bs r =
     let o = rising_below d.name fs e bs a in
     (rw (o, i.0), rw (o, i.1))
 
--- ---- what the walk finds
+-- ---- what the walk keeps
 
--- behind the asked name no entry has it
-sought_behind : (asked : List ℕ) (found : Option Spot) (at : ℕ) (last : List ℕ) (es : List Entry) → rises_from last es ≡ true
-    → (order asked last ≡ 0) ⊎ (order last asked ≡ 1) → sought asked found at es ≡ found
-unfolding fair
-sought_behind asked found at last [] r h = refl
-sought_behind asked found at last (e ∷ es) r h =
-    let a = and_true (fair last e.name e.code) (rises_from e.name es) r in
-    let l = eqb-true (order last e.name) 0 (and_true _ _ a.0).0 in
-    let u : order asked e.name ≡ 0 =
-    ⊎_elim (λ x. order_trans asked last e.name x l) (λ x. subst (λ (w : List ℕ). order w e.name ≡ 0) (order_same_is last asked x) l) h in
-    let v : order e.name asked ≡ 2 = order_turned e.name asked u in
-    rw v (sought_behind asked found (at + length e.name + length e.code) e.name es a.1 (inl u))
+notes_closed : (asked : List ℕ) (b at : ℕ) (q : Bool) (n m : ℕ) (es : List Entry) → notes asked (closed b at q n m) es ≡ closed b at q n m
+unfolding note
+notes_closed asked b at q n m [] = refl
+notes_closed asked b at q n m (e ∷ es) = notes_closed asked b at q n m es
 
--- what is found is the answer
-pub sought_found : (asked : List ℕ) (at : ℕ) (last : List ℕ) (es : List Entry) → rises_from last es ≡ true
-    → place_found (ok_or (sought asked None at es) NotInBook) ≡ found_here asked (at + length (bodies (front asked es))) (back asked es)
-sought_found asked at last [] r = refl
-sought_found asked at last (e ∷ es) r =
-    let rest = (and_true (fair last e.name e.code) (rises_from e.name es) r).1 in
-    go rest (sought_found asked (at + length e.name + length e.code) e.name es rest) (eqb (order e.name asked) 0) refl (eqb (order e.name asked) 1) refl
+pub notes_opened : (asked : List ℕ) (b at : ℕ) (es : List Entry)
+    → notes asked (opened b at) es ≡ headed asked (b + length (front asked es)) (at + length (bodies (front asked es))) (back asked es)
+unfolding note
+notes_opened asked b at [] =
+    let u : b ≡ b + 0 = omega arith in
+    let v : at ≡ at + 0 = omega arith in
+    ap (λ x. opened x at) u ∙ ap (λ x. opened (b + 0) x) v
+notes_opened asked b at (e ∷ es) = go (below e.name asked) (notes_opened asked (b + 1) (at + length e.name + length e.code) es)
   where
     n : ℕ
     n = length e.name
@@ -90,34 +82,35 @@ sought_found asked at last (e ∷ es) r =
     f : List Entry
     f = front asked es
 
-    here : at + 0 ≡ at
-    here = omega arith
-
-    go : rises_from e.name es ≡ true
-        → place_found (ok_or (sought asked None (at + n + m) es) NotInBook) ≡ found_here asked (at + n + m + length (bodies f)) (back asked es)
-        → (q : Bool) → eqb (order e.name asked) 0 ≡ q → (p : Bool) → eqb (order e.name asked) 1 ≡ p
-        → place_found (ok_or (sought asked (cond p (Some (spot_at at e)) None) (at + n + m) es) NotInBook)
-        ≡ found_here asked (at + length (bodies (cond q (e ∷ f) []))) (cond q (back asked es) (e ∷ es))
-    go rest next true d true u = absurd (omega (arith, eqb-true (order e.name asked) 0 d, eqb-true (order e.name asked) 1 u))
-    go rest next true d false u =
+    go : (q : Bool) → notes asked (opened (b + 1) (at + n + m)) es ≡ headed asked (b + 1 + length f) (at + n + m + length (bodies f)) (back asked es)
+        → notes asked (cond q (opened (b + 1) (at + n + m)) (closed b at (eqb (order e.name asked) 1) n m)) es
+        ≡ headed asked (b + length (cond q (e ∷ f) [])) (at + length (bodies (cond q (e ∷ f) []))) (cond q (back asked es) (e ∷ es))
+    go true i =
+        let u : b + 1 + length f ≡ b + suc (length f) = omega arith in
         let v : at + n + m + length (bodies f) ≡ at + length (e.name ++ (e.code ++ bodies f)) = simp length-append (omega arith) in
-        next ∙ ap (λ x. found_here asked x (back asked es)) v
-    go rest next false d true u =
-        rw (sought_behind asked (Some (spot_at at e)) (at + n + m) e.name es rest (inr (eqb-true (order e.name asked) 1 u)), here, u)
-    go rest next false d false u =
-        rw (sought_behind asked None (at + n + m) e.name es rest (inl (order_other e.name asked (eqb-false (order e.name asked) 0 d) (eqb-false (order e.name asked) 1 u))), here, u)
+        i ∙ ap (λ x. headed asked x (at + n + m + length (bodies f)) (back asked es)) u ∙ ap (λ x. headed asked (b + suc (length f)) x (back asked es)) v
+    go false i =
+        let u : b ≡ b + 0 = omega arith in
+        let v : at ≡ at + 0 = omega arith in
+        let q = eqb (order e.name asked) 1 in
+        notes_closed asked b at q n m es ∙ ap (λ x. closed x at q n m) u ∙ ap (λ x. closed (b + 0) x q n m) v
 
--- so the walk over a whole book gives the answer
-pub walked_found : (asked s : List ℕ) → Bytes s → place_found (walked asked None (first_body (word_at s 0)) (entries_of s)) ≡ found_in asked s
+settled_headed : (asked : List ℕ) (b at : ℕ) (es : List Entry) → settled (headed asked b at es) ≡ found_here asked at es
+settled_headed asked b at [] = refl
+settled_headed asked b at (e ∷ es) = refl
+
+-- what the walk keeps is the answer
+pub looked_found : (asked s : List ℕ) → Bytes s → looked_answer (noted asked (opened 0 (first_body (word_at s 0))) (entries_of s)) ≡ found_in asked s
 unfolding found_in
-walked_found asked s bytes = go (entries_of s) refl
+looked_found asked s bytes = go (entries_of s) refl
   where
-    go : (o : math.Option (List Entry)) → entries_of s ≡ o → place_found (walked asked None (first_body (word_at s 0)) o) ≡ and_then (well_formed o) (found_among asked)
+    go : (o : math.Option (List Entry)) → entries_of s ≡ o
+        → looked_answer (noted asked (opened 0 (first_body (word_at s 0))) o) ≡ and_then (well_formed o) (found_among asked)
     go none e = refl
     go (some es) e =
-        let b = entries_sound s bytes es e in
-        let m = made_of b in
-        rw m.count (sought_found asked (first_body (length es)) [] es (good_rises b.good))
+        let m = made_of (entries_sound s bytes es e) in
+        ap settled (notes_opened asked 0 (first_body (word_at s 0)) es)
+        ∙ rw m.count (settled_headed asked (0 + length (front asked es)) (first_body (length es) + length (bodies (front asked es))) (back asked es))
 
 -- ---- what a name leads to
 
@@ -279,10 +272,16 @@ module _ (asked s : List ℕ) where
   unfolding found_in entries_of
   find_badly e = rw e
 
-  pub find_read : Bytes s → sized s ≡ true → {k : ℕ} → k ≡ word_at s 0 → {r : Result Spot NotFound}
-      → r ≡ looked_in asked s k → place_found r ≡ found_in asked s
-  unfolding entries_of
-  find_read bytes e {k} f {r} g = rw (g, f) (rw e at (walked_found asked s bytes))
+  module _ (bytes : Bytes s) (e : sized s ≡ true) {k : ℕ} (count : k ≡ word_at s 0) where
+    looked_read : looked_answer (looked_in asked s k) ≡ found_in asked s
+    unfolding entries_of
+    looked_read = rw count (rw e at (looked_found asked s bytes))
+
+    pub find_holds : {v : Seen} → looked_in asked s k ≡ Ok v → settled v ≡ found_in asked s
+    find_holds g = sym (ap looked_answer g) ∙ looked_read
+
+    pub find_refused : {why : NotFound} → looked_in asked s k ≡ Err why → refused (place_refusal why) ≡ found_in asked s
+    find_refused g = sym (ap looked_answer g) ∙ looked_read
 
   pub found_inside : Bytes s → (p : Spot) → found_in asked s ≡ accepted p → p.start + p.name + p.code ≤ length s
   found_inside bytes p e = let f = found_at asked s bytes p e in subst (λ (q : Spot). q.start + q.name + q.code ≤ length s) f.place (part_inside f.is)

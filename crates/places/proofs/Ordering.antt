@@ -9,7 +9,7 @@ use lib.Dec.{ltb, eqb}
 use borrow.Author.Tests.{ltb-true, ltb-false, lt-ltb, le-ltb, ne_eqb, eq-eqb}
 use Rattle.std.specs.declared.cmp.Ordering.{Ordering}
 use Rattle.std.specs.declared.cmp.Ordering.TheVariants.{Less, Equal, Greater}
-use Rattle.std.specs.Ordering.{ordering_index, nat_cmp, is_ge, is_eq}
+use Rattle.std.specs.Ordering.{ordering_index, is_lt, nat_cmp, is_ge, is_eq}
 use Rattle.std.specs.Cmp.Lexicographic.{slice_cmp}
 use Rattle.grid.proofs.Cut.{clash}
 use Rattle.places.specs.Book.{order}
@@ -63,17 +63,6 @@ order_turned (x ∷ a) (y ∷ b) e =
     let k = heads x y a b in
     by_order y x (λ l. k.high l) (λ l. absurd (omega (arith, h.high l))) (λ u. k.even (sym u) ∙ order_turned a b (sym (h.even u) ∙ e))
 
--- and the other way round
-pub order_other : (a b : List ℕ) → (order a b ≡ 0 → ⊥) → (order a b ≡ 1 → ⊥) → order b a ≡ 0
-order_other [] [] n m = absurd (m refl)
-order_other [] (y ∷ b) n m = absurd (n refl)
-order_other (x ∷ a) [] n m = refl
-order_other (x ∷ a) (y ∷ b) n m =
-    let h = heads x y a b in
-    let k = heads y x b a in
-    by_order x y (λ l. absurd (n (h.low l))) (λ l. k.low l)
-    (λ u. k.even (sym u) ∙ order_other a b (λ e. n (h.even u ∙ e)) (λ e. m (h.even u ∙ e)))
-
 pub order_trans : (a b c : List ℕ) → order a b ≡ 0 → order b c ≡ 0 → order a c ≡ 0
 order_trans [] [] c e f = f
 order_trans [] (y ∷ b) [] e f = absurd (omega arith)
@@ -123,6 +112,11 @@ pub is_below : (o : Ordering) → is_ge o ≡ false → ordering_index o ≡ 0
 is_below Less e = refl
 is_below Equal e = clash (cc)
 is_below Greater e = clash (cc)
+
+pub is_less : (o : Ordering) → is_lt o ≡ eqb (ordering_index o) 0
+is_less Less = refl
+is_less Equal = refl
+is_less Greater = refl
 
 pub is_same : (o : Ordering) → is_eq o ≡ eqb (ordering_index o) 1
 is_same Less = refl

@@ -56,14 +56,16 @@ chunks_taken (suc k) m xs h =
     ap₂ ◌∷◌ (take-take 4 m xs (omega arith)) (ap (first_chunks 4 k) (drop_taken 4 m xs (omega arith)) ∙ chunks_taken k (m - 4) (drop 4 xs) (omega arith))
 
 -- the contents stand behind the count
-pub contents_are : (s : List ℕ) (k : ℕ) {rest : List ℕ} {c : List (List ℕ)} → rest ≡ drop 2 s → 2 + 4 * k ≤ length s → length rest + 2 ≡ length s
-    → c ≡ first_chunks 4 (length (take (4 * k) rest) / 4) (take (4 * k) rest) → length c ≡ length (take (4 * k) rest) / 4 → k ≡ word_at s 0 → Contents s c
-contents_are s k {rest} {c} e h l f g w =
+pub contents_are : (s : List ℕ) (k : ℕ) {rest : List ℕ} {c : List (List ℕ)} → length s ≤ 65535 → k ≤ 1000 → rest ≡ drop 2 s → 2 + 4 * k ≤ length s
+    → length rest + 2 ≡ length s → c ≡ first_chunks 4 (length (take (4 * k) rest) / 4) (take (4 * k) rest) → length c ≡ length (take (4 * k) rest) / 4 → k ≡ word_at s 0 → Contents s c
+contents_are s k {rest} {c} short few e h l f g w =
     let t : length (take (4 * k) rest) ≡ 4 * k = length-take-le (4 * k) rest (omega arith) in
     let n : length (take (4 * k) rest) / 4 ≡ k = omega arith in
     let m : length c ≡ k = g ∙ n in
     record {
       count = m ∙ w;
+      few = omega arith;
       are = f ∙ ap (λ j. first_chunks 4 j (take (4 * k) rest)) (n ∙ sym m) ∙ chunks_taken (length c) (4 * k) rest (omega arith) ∙ ap (first_chunks 4 (length c)) e;
       room = omega arith;
+      short = short;
     }

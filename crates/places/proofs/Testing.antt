@@ -5,14 +5,16 @@ use mathlib.Core.Bool.{Bool, true, false}
 use mathlib.Core.List.{List}
 use Prim.Native.Nat.{ℕ, ◌+◌, ◌-◌, ◌≤◌, ◌<◌}
 use native.Mathlib.Omega.{arith}
-use lib.Dec.{leb}
+use lib.Dec.{leb, eqb}
 use lib.ListN.{length, get_or, take, drop, length-drop}
 use lib.Seq.{take_all}
 use borrow.Author.Tests.{le-leb, lt-leb, ne_eqb, eq-eqb}
+use Rattle.std.specs.Option.{is_some}
 use Rattle.grid.specs.Plane.{cell_of}
 use Rattle.places.specs.Book.{order, unhyphened, is_accepted}
 use Rattle.places.specs.Reading.{word_at, next_body, fair, fair_at}
-use Rattle.places.specs.inner.Walk.{AlikeTo}
+use Rattle.places.specs.inner.Walk.{AlikeTo, note, opened, closed}
+use Rattle.places.specs.declared.Seen.{Seen}
 
 module _ (last name code : List ℕ) {o : ℕ} (is : o ≡ order last name) where
   pub fair_order : (o ≡ 0 → ⊥) → false ≡ fair last name code
@@ -58,3 +60,17 @@ module _ (s : List ℕ) (i at : ℕ) (last : List ℕ) {w : ℕ} (is : w ≡ wor
         let u : at + n - at ≡ n = omega arith in
         let v : at + n + m - (at + n) ≡ m = omega arith in
         rw (← is, eq-eqb w at here, k, ← is-n, ← is_m) (rw (u, v) at e)
+
+module _ (asked : List ℕ) (v : Seen) (name : List ℕ) (m : ℕ) where
+  pub note_met : is_some v.met ≡ true → v ≡ note asked v name m
+  unfolding note
+  note_met e = rw e
+
+  module _ (not_yet : is_some v.met ≡ false) {o : ℕ} (is : o ≡ order name asked) where
+    pub note_below : o ≡ 0 → opened (v.below + 1) (v.start + length name + m) ≡ note asked v name m
+    unfolding note
+    note_below e = rw (not_yet, ← is, eq-eqb o 0 e)
+
+    pub note_close : (o ≡ 0 → ⊥) → closed v.below v.start (eqb o 1) (length name) m ≡ note asked v name m
+    unfolding note
+    note_close n = rw (not_yet, ← is, ne_eqb o 0 n)

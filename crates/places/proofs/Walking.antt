@@ -1,7 +1,7 @@
 -- The walk over the entries: at each turn what is left gives what the whole was to give.
 -- Assumes nothing.
 use mathlib.Core.Path.{◌≡◌, refl, sym, ◌∙◌, ap}
-use mathlib.Core.Bool.{true, false}
+use mathlib.Core.Bool.{Bool, true, false, cond}
 use mathlib.Core.List.{List, []}
 use mathlib.Core.Option as math
 use mathlib.Core.Option.{some, none}
@@ -12,19 +12,16 @@ use lib.ListN.{length, get_or, take, drop, length-drop}
 use lib.Seq.{length-take-le, drop-drop, get_or-drop}
 use borrow.Author.Tests.{leb-true, eq-eqb, ne_eqb, eqb-true}
 use Rattle.std.proofs.lemmas.List.{get_or-take}
-use Rattle.std.specs.Option.{ok_or}
-use Rattle.std.specs.Prelude.{Option, Some, None, Result, Err}
+use Rattle.std.specs.Option.{is_some}
+use Rattle.std.specs.Prelude.{Result, Ok, Err}
 use Rattle.std.specs.Simd.{first_chunks}
-use Rattle.std.specs.declared.cmp.Ordering.{Ordering}
-use Rattle.std.specs.Ordering.{ordering_index, is_eq}
 use Rattle.grid.proofs.Cut.{and_true}
 use Rattle.places.specs.Book.{Entry, first_body, order, below, unhyphened}
 use Rattle.places.specs.Reading.{word_at, entry_at, next_body, fair, fair_at, entry_then, entries_from}
-use Rattle.places.specs.inner.Walk.{Contents, seek, walked, looked_in}
-use Rattle.places.proofs.Ordering.{is_same}
-use Rattle.places.specs.declared.Spot.{Spot}
+use Rattle.places.specs.inner.Walk.{Contents, Fits, opened, closed, note, noted, looked_in}
+use Rattle.places.specs.declared.Seen.{Seen}
 use Rattle.places.specs.declared.NotFound.{NotFound}
-use Rattle.places.specs.declared.NotFound.TheVariants.{BadlyFormed, NotInBook}
+use Rattle.places.specs.declared.NotFound.TheVariants.{BadlyFormed}
 
 -- what is known of a fair entry
 pub record Fair (s : List ℕ) (i at : ℕ) (last : List ℕ) : Type 0 where
@@ -75,38 +72,50 @@ module _ {s : List ℕ} {c : List (List ℕ)} (is : Contents s c) (i : ℕ) (h :
   pub code_is : {m : ℕ} → m ≡ get_or (get_or c i []) 3 0 → m ≡ get_or s (2 + 4 * i + 3) 0
   code_is e = e ∙ byte_at 3 (omega arith)
 
--- an entry that has the asked name, and one that has another
-module _ (asked : List ℕ) (found : Option Spot) (at : ℕ) (name : List ℕ) (m : ℕ) (r : Ordering) (is : ordering_index r ≡ order name asked) where
-  pub sought_here : is_eq r ≡ true → {k : ℕ} → k ≡ m → Some (record { start = at; name = length name; code = k }) ≡ seek asked found at name m
-  sought_here e u =
-      let t : eqb (order name asked) 1 ≡ true = ap (λ x. eqb x 1) (sym is) ∙ sym (is_same r) ∙ e in
-      rw (t, u)
+-- what is seen stays behind the walk
+pub note_behind : (asked : List ℕ) (v : Seen) (name : List ℕ) (m at : ℕ) → v.start ≤ at → (note asked v name m).start ≤ at + length name + m
+unfolding note
+note_behind asked v name m at h = go (is_some v.met) (below name asked)
+  where
+    go : (p q : Bool)
+        → (cond p v (cond q (opened (v.below + 1) (v.start + length name + m)) (closed v.below v.start (eqb (order name asked) 1) (length name) m))).start ≤ at + length name + m
+    go true q = omega arith
+    go false true = omega arith
+    go false false = omega arith
 
-  pub not_here : is_eq r ≡ false → found ≡ seek asked found at name m
-  not_here e =
-      let t : eqb (order name asked) 1 ≡ false = ap (λ x. eqb x 1) (sym is) ∙ sym (is_same r) ∙ e in
-      rw t
+pub note_few : (asked : List ℕ) (v : Seen) (name : List ℕ) (m : ℕ) → (note asked v name m).below ≤ v.below + 1
+unfolding note
+note_few asked v name m = go (is_some v.met) (below name asked)
+  where
+    go : (p q : Bool)
+        → (cond p v (cond q (opened (v.below + 1) (v.start + length name + m)) (closed v.below v.start (eqb (order name asked) 1) (length name) m))).below ≤ v.below + 1
+    go true q = omega arith
+    go false true = omega arith
+    go false false = omega arith
 
 -- where the walk has come to
-pub record Going (asked s : List ℕ) (whole : Result Spot NotFound) (left i here : ℕ) (last : List ℕ) (found : Option Spot) : Type 0 where
+pub record Going (asked s : List ℕ) (whole : Result Seen NotFound) (left i here : ℕ) (last : List ℕ) (seen : Seen) : Type 0 where
   pub room : i + 4 * left ≤ length s
   pub inside : here ≤ length s
+  pub behind : seen.start ≤ here
   pub clear : unhyphened last ≡ true
-  pub rest : walked asked found here (entries_from s left i here last) ≡ whole
+  pub few : seen.below + left ≤ 1000
+  pub short : length s ≤ 65535
+  pub rest : noted asked seen (entries_from s left i here last) ≡ whole
 
 module _ (asked s : List ℕ) where
-  walk_unfair : (left i here : ℕ) (last : List ℕ) (found : Option Spot) → 0 < left → fair_at s i here last ≡ false
-      → walked asked found here (entries_from s left i here last) ≡ Err BadlyFormed
+  walk_unfair : (left i here : ℕ) (last : List ℕ) (seen : Seen) → 0 < left → fair_at s i here last ≡ false
+      → noted asked seen (entries_from s left i here last) ≡ Err BadlyFormed
   unfolding entries_from
-  walk_unfair zero i here last found h e = absurd (omega arith)
-  walk_unfair (suc k) i here last found h e = rw e
+  walk_unfair zero i here last seen h e = absurd (omega arith)
+  walk_unfair (suc k) i here last seen h e = rw e
 
-  walk_fair : (left i here : ℕ) (last : List ℕ) (found : Option Spot) {n m : ℕ} {name : List ℕ} → 0 < left → fair_at s i here last ≡ true
+  walk_fair : (left i here : ℕ) (last : List ℕ) (seen : Seen) {n m : ℕ} {name : List ℕ} → 0 < left → fair_at s i here last ≡ true
       → n ≡ get_or s (i + 2) 0 → m ≡ get_or s (i + 3) 0 → name ≡ take n (drop here s)
-      → walked asked found here (entries_from s left i here last) ≡ walked asked (seek asked found here name m) (here + n + m) (entries_from s (left - 1) (i + 4) (here + n + m) name)
+      → noted asked seen (entries_from s left i here last) ≡ noted asked (note asked seen name m) (entries_from s (left - 1) (i + 4) (here + n + m) name)
   unfolding entries_from
-  walk_fair zero i here last found h e is-n is_m is_name = absurd (omega arith)
-  walk_fair (suc k) i here last found {n} {m} {name} h e is-n is_m is_name =
+  walk_fair zero i here last seen h e is-n is_m is_name = absurd (omega arith)
+  walk_fair (suc k) i here last seen {n} {m} {name} h e is-n is_m is_name =
       rw (e, ← is-n, ← is_m, ← is_name, one) (go (entries_from s k (i + 4) (here + n + m) name))
     where
       one : suc k - 1 ≡ k
@@ -115,57 +124,66 @@ module _ (asked s : List ℕ) where
       f : Fair s i here last
       f = fair_known s i here last e
 
-      long : length name ≡ n
-      long = ap length is_name ∙ part_length s here n (omega (arith, f.inside))
-
       code : length (take m (drop (here + n) s)) ≡ m
       code = part_length s (here + n) m (omega (arith, f.inside))
 
-      go : (o : math.Option (List Entry)) → walked asked found here (entry_then (record { name = name; code = take m (drop (here + n) s) }) o)
-          ≡ walked asked (seek asked found here name m) (here + n + m) o
+      go : (o : math.Option (List Entry)) → noted asked seen (entry_then (record { name = name; code = take m (drop (here + n) s) }) o)
+          ≡ noted asked (note asked seen name m) o
       go none = refl
-      go (some es) = rw (code, long)
+      go (some es) = rw code
 
-  walk_ended : (left i here : ℕ) (last : List ℕ) (found : Option Spot) → left ≤ 0 → here ≡ length s → walked asked found here (entries_from s left i here last) ≡ ok_or found NotInBook
+  walk_ended : (left i here : ℕ) (last : List ℕ) (seen : Seen) → left ≤ 0 → here ≡ length s → noted asked seen (entries_from s left i here last) ≡ Ok seen
   unfolding entries_from
-  walk_ended zero i here last found h e = rw (eq-eqb here (length s) e)
-  walk_ended (suc k) i here last found h e = absurd (omega arith)
+  walk_ended zero i here last seen h e = rw (eq-eqb here (length s) e)
+  walk_ended (suc k) i here last seen h e = absurd (omega arith)
 
-  walk_longer : (left i here : ℕ) (last : List ℕ) (found : Option Spot) → left ≤ 0 → (here ≡ length s → ⊥)
-      → walked asked found here (entries_from s left i here last) ≡ Err BadlyFormed
+  walk_longer : (left i here : ℕ) (last : List ℕ) (seen : Seen) → left ≤ 0 → (here ≡ length s → ⊥) → noted asked seen (entries_from s left i here last) ≡ Err BadlyFormed
   unfolding entries_from
-  walk_longer zero i here last found h e = rw (ne_eqb here (length s) e)
-  walk_longer (suc k) i here last found h e = absurd (omega arith)
+  walk_longer zero i here last seen h e = rw (ne_eqb here (length s) e)
+  walk_longer (suc k) i here last seen h e = absurd (omega arith)
 
   pub begins : {c : List (List ℕ)} → Contents s c
-      → Going asked s (looked_in asked s (length c)) (length c) 2 (first_body (length c)) [] None
-  begins w = record { room = w.room; inside = w.room; clear = refl; rest = refl }
+      → Going asked s (looked_in asked s (length c)) (length c) 2 (first_body (length c)) [] (opened 0 (first_body (length c)))
+  begins w = record { room = w.room; inside = w.room; behind = omega arith; clear = refl; few = omega (arith, w.few); short = w.short; rest = refl }
 
-module _ {asked s : List ℕ} {whole : Result Spot NotFound} {left i here : ℕ} {last : List ℕ} {found : Option Spot} (g : Going asked s whole left i here last found) where
+module _ {asked s : List ℕ} {whole : Result Seen NotFound} {left i here : ℕ} {last : List ℕ} {seen : Seen} (g : Going asked s whole left i here last seen) where
   pub stops : 0 < left → false ≡ fair_at s i here last → Err BadlyFormed ≡ whole
-  stops h e = sym (walk_unfair asked s left i here last found h (sym e)) ∙ g.rest
+  stops h e = sym (walk_unfair asked s left i here last seen h (sym e)) ∙ g.rest
 
   pub goes : {n m : ℕ} → 0 < left → true ≡ fair_at s i here last → n ≡ get_or s (i + 2) 0 → m ≡ get_or s (i + 3) 0
-      → {next : Option Spot} → next ≡ seek asked found here (take (here + n - here) (drop here s)) m
+      → {next : Seen} → next ≡ note asked seen (take (here + n - here) (drop here s)) m
       → Going asked s whole (left - 1) (i + 4) (here + n + m) (take (here + n - here) (drop here s)) next
   goes {n} {m} h e is-n is_m {next} is-next =
-      let k = fair_known s i here last (sym e) in
+      let t = sym e in
+      let k = fair_known s i here last t in
       let u : here + n - here ≡ n = omega arith in
+      let name = take (here + n - here) (drop here s) in
+      let l : length name ≡ n = ap (λ x. length (take x (drop here s))) u ∙ part_length s here n (omega (arith, k.inside)) in
       record {
         room = omega (arith, g.room);
         inside = omega (arith, k.inside);
+        behind = rw is-next (omega (arith, note_behind asked seen name m here g.behind));
         clear = ap (λ x. unhyphened (take x (drop here s))) u ∙ ap (λ x. unhyphened (take x (drop here s))) is-n ∙ fair_clear last _ _ k.entry;
-        rest = rw is-next (sym (walk_fair asked s left i here last found h (sym e) is-n is_m (ap (λ x. take x (drop here s)) u)) ∙ g.rest);
+        few = rw is-next (omega (arith, g.few, note_few asked seen name m));
+        short = g.short;
+        rest = rw is-next (sym (walk_fair asked s left i here last seen h t is-n is_m (ap (λ x. take x (drop here s)) u)) ∙ g.rest);
       }
 
-  pub ends : left ≤ 0 → here ≡ length s → ok_or found NotInBook ≡ whole
-  ends h e = sym (walk_ended asked s left i here last found h e) ∙ g.rest
+  pub fits_here : {n m : ℕ} → true ≡ fair_at s i here last → n ≡ get_or s (i + 2) 0 → m ≡ get_or s (i + 3) 0
+      → Fits seen (length (take (here + n - here) (drop here s))) m
+  fits_here {n} {m} e is-n is_m =
+      let k = fair_known s i here last (sym e) in
+      let u : here + n - here ≡ n = omega arith in
+      let l : length (take (here + n - here) (drop here s)) ≡ n = ap (λ x. length (take x (drop here s))) u ∙ part_length s here n (omega (arith, k.inside)) in
+      record { few = omega (arith, g.few); near = omega (arith, k.inside, g.behind, g.short) }
+
+  pub ends : left ≤ 0 → here ≡ length s → Ok seen ≡ whole
+  ends h e = sym (walk_ended asked s left i here last seen h e) ∙ g.rest
 
   pub overruns : left ≤ 0 → (here ≡ length s → ⊥) → Err BadlyFormed ≡ whole
-  overruns h e = sym (walk_longer asked s left i here last found h e) ∙ g.rest
+  overruns h e = sym (walk_longer asked s left i here last seen h e) ∙ g.rest
 
 -- the same place, said in other words
-pub going_on : {asked s : List ℕ} {whole : Result Spot NotFound} {left i here : ℕ} {last : List ℕ} {found : Option Spot} → Going asked s whole left i here last found
-    → {left' i' here' : ℕ} {last' : List ℕ} {found' : Option Spot} → left' ≡ left → i' ≡ i → here' ≡ here → last' ≡ last → found' ≡ found
-    → Going asked s whole left' i' here' last' found'
-going_on g a b d e f = rw (a, b, d, e, f) g
+pub going_on : {asked s : List ℕ} {whole : Result Seen NotFound} {left i here : ℕ} {last : List ℕ} {seen : Seen} → Going asked s whole left i here last seen
+    → {left' i' : ℕ} → left' ≡ left → i' ≡ i → Going asked s whole left' i' here last seen
+going_on g a b = rw (a, b) g

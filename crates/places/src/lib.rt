@@ -8,7 +8,7 @@ ghost use Rattle.grid.specs.Plane.{cell_of};
 ghost use Rattle.places.specs.Book.{order, unhyphened, is_accepted};
 ghost use Rattle.places.specs.Reading.{fair, sized};
 ghost use Rattle.places.specs.Finding.{place_refusal, place_found, found_in, part_in};
-ghost use Rattle.places.specs.inner.Walk.{four_at, AlikeTo, Alike, Contents, looked_in};
+ghost use Rattle.places.specs.inner.Walk.{four_at, AlikeTo, Alike, Contents, Fits, note, settled, looked_in};
 
 use grid::{Reason, Refusal};
 use std::cmp::Ordering;
@@ -37,6 +37,22 @@ impl From<NotFound> for Refusal {
             NotFound::NotInBook => Reason::NotInBook.refuse(),
         }
     }
+}
+
+// The first entry that is not below the asked name: whether it has that name, and its lengths.
+#[derive(Clone, Copy)]
+struct Met {
+    same: bool,
+    name: usize,
+    code: usize,
+}
+
+// What the walk keeps of an asked name: how many names are below it, where the next body begins, and the first entry that is not below.
+#[derive(Clone, Copy)]
+struct Seen {
+    below: usize,
+    start: usize,
+    met: Option<Met>,
 }
 
 // ---- one entry
@@ -120,6 +136,48 @@ fn fair(last: &[u8], name: &[u8], code: &[u8]) -> bool
 
 // ---- the walk
 
+impl Seen {
+    // What one more entry makes of what was seen before it.
+    fn note(self, asked: &[u8], name: &[u8], code: usize) -> Seen
+        requires { Fits self (length name.now) code }
+        ensures { result ≡ note asked.now self name.now code }
+    {
+        if self.met.is_some() {
+            return self;
+        }
+        let order = order(name, asked);
+        if order.is_lt() {
+            return Seen {
+                below: self.below + 1,
+                start: self.start + name.len() + code,
+                met: None,
+            };
+        }
+        Seen {
+            met: Some(Met {
+                same: order.is_eq(),
+                name: name.len(),
+                code,
+            }),
+            ..self
+        }
+    }
+
+    // What was seen, as an answer.
+    fn settled(self) -> Result<Spot, NotFound>
+        ensures { place_found result ≡ settled self }
+    {
+        match self.met {
+            Some(e) if e.same => Ok(Spot {
+                start: self.start,
+                name: e.name,
+                code: e.code,
+            }),
+            _ => Err(NotFound::NotInBook),
+        }
+    }
+}
+
 // The contents of a book, four bytes an entry, where its lengths are such that they can be read.
 fn contents(places: &[u8]) -> Option<&[[u8; 4]]>
     ensures { MatchOption result (sized places.now ≡ false) (λ e. (sized places.now ≡ true) × Contents places.now e.now) }
@@ -134,17 +192,22 @@ fn contents(places: &[u8]) -> Option<&[[u8; 4]]>
 }
 
 // The walk over the entries with these contents: each is checked, and the asked name is sought.
-fn walk(asked: &[u8], book: &[u8], entries: &[[u8; 4]]) -> Result<Spot, NotFound>
+fn walk(asked: &[u8], book: &[u8], entries: &[[u8; 4]]) -> Result<Seen, NotFound>
     requires { Contents book.now entries.now }
     ensures { result ≡ looked_in asked.now book.now (length entries.now) }
 {
     let mut last = &book[..0];
     let mut at = 2 + 4 * entries.len();
-    let mut found = None;
+    let mut seen = Seen {
+        below: 0,
+        start: at,
+        met: None,
+    };
     for entry in entries {
         let [high, low, n, m] = *entry;
         let mid = at + usize::from(n);
-        let end = mid + usize::from(m);
+        let code = usize::from(m);
+        let end = mid + code;
         if usize::from(u16::from_be_bytes([high, low])) != at || book.len() < end {
             return Err(NotFound::BadlyFormed);
         }
@@ -152,18 +215,12 @@ fn walk(asked: &[u8], book: &[u8], entries: &[[u8; 4]]) -> Result<Spot, NotFound
         if !fair(last, name, &book[mid..end]) {
             return Err(NotFound::BadlyFormed);
         }
-        if order(name, asked).is_eq() {
-            found = Some(Spot {
-                start: at,
-                name: name.len(),
-                code: usize::from(m),
-            });
-        }
+        seen = seen.note(asked, name, code);
         last = name;
         at = end;
     }
     if at == book.len() {
-        found.ok_or(NotFound::NotInBook)
+        Ok(seen)
     } else {
         Err(NotFound::BadlyFormed)
     }
@@ -176,7 +233,7 @@ pub fn find(name: &[u8], places: &[u8]) -> Result<Spot, NotFound>
     ensures { place_found result ≡ found_in name.now places.now }
 {
     match contents(places) {
-        Some(entries) => walk(name, places, entries),
+        Some(entries) => walk(name, places, entries)?.settled(),
         None => Err(NotFound::BadlyFormed),
     }
 }

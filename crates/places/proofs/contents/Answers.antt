@@ -28,5 +28,5 @@ returns c = let s = c.args.places.now in
     let head : 2 ≤ length s = omega (arith, f.2) in
     let k = count_is s head f.0 (c.from-k.ensures ∙ c.from_be_bytes.ensures) in
     let room : 2 + 4 * c.from-k.result ≤ length s = omega (arith, f.2, c.if-rest-k.false) in
-    let e = contents_are s c.from-k.result f.1 room f.2 c.as_chunks.ensures.front c.as_chunks.ensures.front_len k in
+    let e = contents_are s c.from-k.result c.if-places-gt65535.false c.if-k-gt1000.false f.1 room f.2 c.as_chunks.ensures.front c.as_chunks.ensures.front_len k in
     (in_contents s head c.if-places-gt65535.false k c.if-k-gt1000.false room, e)
