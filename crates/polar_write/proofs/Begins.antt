@@ -54,9 +54,10 @@ module _ {k : ℕ} {p : Place} (L : Lies k p) where
     pub belt_y : c.low ≤ p.y
     belt_y = rw (index_unit p.north p.y) at in_box.inside.yl
 
-    pub belt_begun : {x : ℕ} {d : Digits} → x ≡ (belt_box c.west 0).x → d ≡ polar_digits k → Begun p (record { rest = spot.Cell ((p.x - x) / (SIXTH / polar_height)) (p.y - c.low); digits = d })
+    pub belt_begun : {x h : ℕ} {d : Digits} → x ≡ (belt_box c.west 0).x → h ≡ polar_height → d ≡ polar_digits k
+        → Begun p (record { rest = spot.Cell ((p.x - x) / (SIXTH / h)) (p.y - c.low); digits = d })
     unfolding spot_in
-    belt_begun f g = begun g (rw (belt_node, index_unit p.east p.x, index_unit p.north p.y, f) refl)
+    belt_begun f z g = begun g (rw (belt_node, index_unit p.east p.x, index_unit p.north p.y, f, z) refl)
 
   -- another cell of the disc
   module _ (m : 0 < k) (l : k < 4) {c : PolarCell} (e : c ≡ polar_cell_at k) where
@@ -77,12 +78,12 @@ module _ {k : ℕ} {p : Place} (L : Lies k p) where
         let y : QUARTER - c.low - polar_height ≤ QUARTER - 1 - p.y = rw (index_unit p.north p.y) at in_ring.inside.yl in
         omega (arith, y, disc_low, L.polar.y_inside)
 
-    pub disc_begun : {x : ℕ} {d : Digits} → x ≡ eastward (unit p.east p.x) → d ≡ polar_digits k
-        → Begun p (record { rest = spot.Cell ((x - c.west) / (TURN / second.ring / polar_height)) (c.low + polar_height - 1 - p.y); digits = d })
+    pub disc_begun : {x w h : ℕ} {d : Digits} → x ≡ eastward (unit p.east p.x) → w ≡ TURN / second.ring → h ≡ polar_height → d ≡ polar_digits k
+        → Begun p (record { rest = spot.Cell ((x - c.west) / (w / h)) (c.low + h - 1 - p.y); digits = d })
     unfolding spot_in
-    disc_begun f g =
+    disc_begun f w z g =
         let y : DISC + polar_height - 1 - p.y ≡ QUARTER - 1 - p.y - (QUARTER - DISC - polar_height) = omega arith in
-        begun g (rw (disc_node, index_unit p.north p.y, f, disc_low, y) refl)
+        begun g (rw (disc_node, index_unit p.north p.y, f, w, z, disc_low, y) refl)
 
 pub cap_begun : {p : Place} {x : ℕ} {d : Digits} → Lies 0 p → x ≡ eastward (unit p.east p.x) → d ≡ polar_digits 0 → Begun p (record { rest = spot.Cap x (QUARTER - 1 - p.y); digits = d })
 unfolding spot_in

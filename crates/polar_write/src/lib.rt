@@ -8,16 +8,11 @@ ghost use Rattle.std.specs.Prelude.{◌≡◌, ◌+◌, ◌/◌, ◌≤◌, ◌<
 ghost use Rattle.grid.specs.Units.{TURN, HALF, DISC, unit, eastward};
 ghost use Rattle.grid.specs.inner.Roads.{square_of};
 ghost use Rattle.grid.specs.inner.Standing.{zone_place, stands_at, spread};
-ghost use Rattle.grid.specs.Plane.{SIXTH, belt_box, code_of};
+ghost use Rattle.grid.specs.Plane.{SIXTH, polar_height, belt_box, code_of};
+ghost use Rattle.grid.specs.Splits.{second};
 ghost use Rattle.polar_write.specs.inner.Spots.{first_chars, cap_step, spot_step, polar_digits, SpotDivides, Polar, Lies, LiesInColumn, Begun, PolarWritable};
 
 use grid::{Digits, Place, Split};
-
-// 120°, the width of the disc's cells but the cap: three about it.
-const THIRD: u32 = 120 * grid::DEGREE;
-
-// 30', the height of the polar cells.
-const HIGH: u32 = 30 * grid::MINUTE;
 
 // Where a square stands: in a cap, eastward and from the pole; in another cell, from its corner in its own directions.
 #[derive(Clone, Copy)]
@@ -123,6 +118,20 @@ fn digits_of(k: u32) -> Digits
     }
 }
 
+// 30', the height of the polar cells: N000 and S000 are two degrees high and have four rows.
+fn high() -> u32
+    ensures { result ≡ polar_height }
+{
+    2 * grid::DEGREE / grid::split_of(0).inward / grid::split_of(1).inward
+}
+
+// 120°, the width of the disc's cells but the cap: three about it.
+fn third() -> u32
+    ensures { result ≡ TURN / second.ring }
+{
+    grid::TURN / grid::split_of(1).ring
+}
+
 // Where a belt cell with a west edge begins, outward from the prime meridian.
 fn corner_of(west: u32) -> u32
     requires { west + SIXTH ≤ TURN }
@@ -144,7 +153,7 @@ fn to_belt(k: u32, p: Place) -> Step
     let c = grid::polar_cell(k as usize);
     Step {
         rest: Spot::Cell {
-            x: (p.x - corner_of(c.west)) / (grid::SIXTH / HIGH),
+            x: (p.x - corner_of(c.west)) / (grid::SIXTH / high()),
             y: p.y - c.low,
         },
         digits: digits_of(k),
@@ -192,10 +201,11 @@ fn to_disc(k: u32, p: Place) -> Step
     ensures { Begun p result }
 {
     let c = grid::polar_cell(k as usize);
+    let h = high();
     Step {
         rest: Spot::Cell {
-            x: (eastward_of(p) - c.west) / (THIRD / HIGH),
-            y: c.low + HIGH - 1 - p.y,
+            x: (eastward_of(p) - c.west) / (third() / h),
+            y: c.low + h - 1 - p.y,
         },
         digits: digits_of(k),
     }
