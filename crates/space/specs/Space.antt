@@ -1,4 +1,4 @@
--- What a space code writer is to write, and what a space reader answers, in document 01's numbers.
+-- What a space code writer is to write, in document 01's numbers.
 -- Assumes nothing.
 use Rattle.std.specs.Prelude.{List, ℕ, ltb, ℤ}
 use Rattle.grid.specs.Units.{index, Square}
