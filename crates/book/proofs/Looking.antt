@@ -1,6 +1,6 @@
 -- What looking at one record says of it, and what is answered once all that decide have been seen.
 -- Assumes nothing.
-use mathlib.Core.Path.{◌≡◌, refl}
+use mathlib.Core.Path.{◌≡◌, refl, sym, ◌∙◌, ap}
 use mathlib.Core.Bool.{Bool, true, false, cond, and-false}
 use Prim.Native.Nat.{ℕ, ◌<◌, ◌≤◌}
 use native.Mathlib.Omega.{arith}
@@ -11,13 +11,13 @@ use borrow.Author.Tests.{eq-eqb, ne_eqb, ltb-true, ltb-false}
 use Rattle.std.specs.Prelude.{Option, Some, None, position}
 use Rattle.std.specs.Option.{ok_or}
 use Rattle.grid.specs.declared.Refusal.{Refusal}
-use Rattle.grid.specs.Answers.{refused, refusal, answer_of}
+use Rattle.grid.specs.Answers.{accepted, refused, refusal, answer_of}
 use Rattle.grid.proofs.Cut.{and_make}
 use Rattle.reservations.specs.declared.Reservation.{Reservation}
 use Rattle.reservations.specs.Meeting.{conflict_test}
 use Rattle.book.specs.declared.Task.TheVariants.{Add, Release}
 use Rattle.book.specs.Book.{live, free, flies, conflicting, record_at, first_with, asked}
-use Rattle.book.proofs.Places.{first_at_most, first_past, first_there}
+use Rattle.book.proofs.Places.{FirstSoFar, first_known, first_at_most, first_past, first_there}
 use Rattle.book.proofs.Ways.{add_same, add_conflict, add_used, add_full, release_used, release_not}
 
 -- neither of the flight nor in conflict, as far as it is live
@@ -57,19 +57,24 @@ module _ (a : Reservation) (book : List Reservation) where
         go k h true e = (passed k (ltb-true _ _ e)).other_flight
         go k h false e = rest k (ltb-false _ _ e) h
 
-    -- all records are passed by: 17, or the first place not live
-    pub says_rest : length book ≤ i → (o : Option ℕ) → o ≡ position free book → {e : Refusal} → e ≡ refusal 17 0 → answer_of (ok_or o e) ≡ asked (Add a) book
-    says_rest l o f {e} g = rw f (go (ltb (first_with free book) (length book)) refl)
-      where
-        s : first_with (flies a.flight) book ≡ length book
-        s = first_past (flies a.flight) book (λ k h. (passed k (omega arith)).other_flight)
+    -- all records are passed by, and the first place not live is known
+    module _ (l : length book ≤ i) (f : ℕ) (known : FirstSoFar free book i f) where
+      s : first_with (flies a.flight) book ≡ length book
+      s = first_past (flies a.flight) book (λ k h. (passed k (omega arith)).other_flight)
 
-        c : first_with (conflicting a) book ≡ length book
-        c = first_past (conflicting a) book (λ k h. (passed k (omega arith)).no_conflict)
+      c : first_with (conflicting a) book ≡ length book
+      c = first_past (conflicting a) book (λ k h. (passed k (omega arith)).no_conflict)
 
-        go : (b : Bool) → ltb (first_with free book) (length book) ≡ b → answer_of (ok_or (cond b (Some (first_with free book)) None) e) ≡ asked (Add a) book
-        go true t = let h : first_with free book < length book = ltb-true _ _ t in add_used _ _ _ _ (omega (arith, s)) (omega (arith, c)) h
-        go false t = let h : length book ≤ first_with free book = ltb-false _ _ t in add_full _ _ _ _ (omega (arith, s)) (omega (arith, c)) h g
+      first : first_with free book ≡ f
+      first = first_known known l
+
+      -- that place
+      pub says_used : f < length book → accepted f ≡ asked (Add a) book
+      says_used h = ap accepted (sym first) ∙ add_used _ _ _ _ (omega (arith, s)) (omega (arith, c)) (omega (arith, first))
+
+      -- 17
+      pub says_17 : length book ≤ f → {e : Refusal} → e ≡ refusal 17 0 → refused e ≡ asked (Add a) book
+      says_17 h g = add_full _ _ _ _ (omega (arith, s)) (omega (arith, c)) (omega (arith, first)) g
 
 -- 18, or the first place of the flight
 pub says_release : (flight : ℕ) (book : List Reservation) (o : Option ℕ) → o ≡ position (flies flight) book → {e : Refusal} → e ≡ refusal 18 0 → answer_of (ok_or o e) ≡ asked (Release flight) book

@@ -1,42 +1,22 @@
 -- The first place of a book whose record passes a test: what it says of the records.
 -- Assumes nothing.
 use mathlib.Core.Path.{◌≡◌, refl, sym, ◌∙◌, ap}
-use mathlib.Core.Bool.{Bool, true, false, cond, false≢true}
-use Prim.Native.Nat.{ℕ, ◌+◌, ◌-◌, ◌<◌, ◌≤◌}
+use mathlib.Core.Bool.{Bool, true, false, false≢true}
+use Prim.Native.Nat.{ℕ, ◌+◌, ◌-◌, ◌<◌, ◌≤◌, min}
 use native.Mathlib.Omega.{arith}
-use mathlib.Core.List.{List, [], ◌∷◌, ◌++◌}
-use lib.Dec.{ltb, eqb}
+use mathlib.Core.List.{List}
+use lib.Dec.{ltb}
 use lib.ListN.{length, take, drop}
-use borrow.Author.Tests.{ltb-true, ltb-false, lt-ltb, le-ltb, eq-eqb, ne_eqb}
-use Rattle.std.specs.Prelude.{Option, Some, None, position}
-use Rattle.std.specs.Option.{option_or}
-use Rattle.std.specs.List.{position_or_len}
+use borrow.Author.Count.{below_more}
+use borrow.Author.Tests.{ltb-true, ltb-false, lt-ltb}
+use Rattle.std.specs.Prelude.{Some, None, position}
 use Rattle.std.proofs.lemmas.List.Quantifiers.{position-Some}
-use Rattle.std.proofs.lemmas.List.Sums.{position_or_len_is, prefix_len_passes, prefix_len-le-length}
-use Rattle.std.proofs.lemmas.List.Folds.{position_or_len_push}
-use Rattle.std.proofs.lemmas.List.{take_more, take_all, length-take, length-drop, length-append}
+use Rattle.std.proofs.lemmas.List.Sums.{position_or_len_is, prefix_len_passes}
+use Rattle.std.proofs.lemmas.List.{take_all, length-drop}
 use Rattle.std.proofs.lemmas.Bool.{not-true}
 use Rattle.reservations.specs.declared.Reservation.{Reservation}
 use Rattle.book.specs.Asking.{blank}
 use Rattle.book.specs.Book.{record_at, first_with}
-
-pushed : (n m : ℕ) (q : Bool) → n ≤ m → cond (ltb (cond (eqb n m) (m + cond q 0 1) n) (m + 1)) (Some (cond (eqb n m) (m + cond q 0 1) n)) None ≡ option_or (cond (ltb n m) (Some n) None) (cond q (Some m) None)
-pushed n m q l = go (ltb n m) refl q
-  where
-    go : (b : Bool) → ltb n m ≡ b → (q : Bool) → cond (ltb (cond (eqb n m) (m + cond q 0 1) n) (m + 1)) (Some (cond (eqb n m) (m + cond q 0 1) n)) None ≡ option_or (cond (ltb n m) (Some n) None) (cond q (Some m) None)
-    go true e q = let h : n < m = ltb-true _ _ e in rw (ne_eqb n m (λ z. omega arith), lt-ltb n m h, lt-ltb n (m + 1) (omega arith)) refl
-    go false e true = let h : m ≤ n = ltb-false _ _ e in rw (eq-eqb n m (omega arith), le-ltb n m h, lt-ltb (m + 0) (m + 1) (omega arith)) (ap Some (omega arith))
-    go false e false = let h : m ≤ n = ltb-false _ _ e in rw (eq-eqb n m (omega arith), le-ltb n m h, le-ltb (m + 1) (m + 1) (omega arith)) refl
-
-push_first : (p : Reservation → Bool) (xs : List Reservation) (r : Reservation) → position p (xs ++ r ∷ []) ≡ option_or (position p xs) (cond (p r) (Some (length xs)) None)
-push_first p xs r =
-    let e : position_or_len p (xs ++ r ∷ []) ≡ cond (eqb (position_or_len p xs) (length xs)) (length xs + cond (p r) 0 1) (position_or_len p xs) = position_or_len_push p xs r in
-    let f : length (xs ++ r ∷ []) ≡ length xs + 1 = length-append xs (r ∷ []) in
-    (λ j. cond (ltb (e j) (f j)) (Some (e j)) None) ∙ pushed (position_or_len p xs) (length xs) (p r) (prefix_len-le-length _ xs)
-
-pub or_none : (o : Option ℕ) → o ≡ option_or o None
-or_none None = refl
-or_none (Some k) = refl
 
 -- the part of a book from a place on
 pub rest_is : (book : List Reservation) (i : ℕ) → drop i book ≡ take (length book - i) (drop i book)
@@ -73,12 +53,36 @@ module _ (p : Reservation → Bool) (book : List Reservation) where
       go true t = absurd (let f : position p book ≡ Some (first_with p book) = rw t refl in let g : Some (first_with p book) ≡ None = sym f ∙ e in cc)
       go false t = let h : length book ≤ first_with p book = ltb-false _ _ t in first_before k (omega arith)
 
-  -- the first place among one record more
-  pub first_more : (i : ℕ) → i < length book → position p (take (i + 1) book) ≡ option_or (position p (take i book)) (cond (p (record_at book i)) (Some i) None)
-  first_more i l =
-      let n : length (take i book) ≡ i = omega (arith, length-take i book) in
-      ap (position p) (take_more book i blank l) ∙ push_first p (take i book) (record_at book i) ∙ ap (λ (k : ℕ). option_or (position p (take i book)) (cond (p (record_at book i)) (Some k) None)) n
-
   -- the record at the first place passes
   pub some_passes : (k : ℕ) → position p book ≡ Some k → (k < length book) × (p (record_at book k) ≡ true)
   some_passes k e = let s = position-Some p book k blank e in (s.0, s.1)
+
+-- ---- what is known of the first place after some records
+
+-- of i records f is the first whose record passes, or the count of the whole book where none does
+pub record FirstSoFar (p : Reservation → Bool) (book : List Reservation) (i f : ℕ) : Type 0 where
+  pub inside : f ≤ length book
+  pub none_before : (k : ℕ) → k < i → k < f → p (record_at book k) ≡ false
+  pub there : f < length book → p (record_at book f) ≡ true
+
+module _ {p : Reservation → Bool} {book : List Reservation} {i f : ℕ} (known : FirstSoFar p book i f) where
+  -- one record more, which passes
+  pub one_passes : i < length book → p (record_at book i) ≡ true → {g : ℕ} → g ≡ min f i → FirstSoFar p book (i + 1) g
+  one_passes l t {g} e =
+      record {
+        inside = omega (arith, known.inside);
+        none_before = λ k h j. known.none_before k (omega arith) (omega arith);
+        there = λ h. go h (ltb f i) refl;
+      }
+    where
+      go : g < length book → (b : Bool) → ltb f i ≡ b → p (record_at book g) ≡ true
+      go h true b = let x : f < i = ltb-true _ _ b in let y : g ≡ f = omega arith in ap (λ (k : ℕ). p (record_at book k)) y ∙ known.there (omega arith)
+      go h false b = let x : i ≤ f = ltb-false _ _ b in let y : g ≡ i = omega arith in ap (λ (k : ℕ). p (record_at book k)) y ∙ t
+
+  -- and which does not
+  pub one_fails : p (record_at book i) ≡ false → {g : ℕ} → g ≡ f → FirstSoFar p book (i + 1) g
+  one_fails t e = rw e (record { inside = known.inside; none_before = below_more _ _ known.none_before (λ h. t); there = known.there })
+
+  -- once the whole book has been seen
+  pub first_known : length book ≤ i → first_with p book ≡ f
+  first_known l = position_or_len_is p book f blank known.inside (λ k h. known.none_before k (omega (arith, known.inside)) h) known.there

@@ -139,13 +139,14 @@ fn place_of(flight: u32, book: &[Reservation]) -> Option<usize>
 // Where a record is added: 15, 16 with the place of the first record in conflict, 17, else the first place of a record not live.
 // 15 goes before 16, so once a conflict is found the rest is looked through for the flight number.
 // One walk, for speed: a `position` for each of the three is plainer, and takes up to 30 hundredths more instructions.
+// The free place is a number, the count of records for none: an Option takes up to 72 hundredths more where few records are live.
 fn place_for(sought: Reservation, book: &[Reservation]) -> Result<usize, Refusal>
     ensures { answer_of result ≡ asked (Add sought) book.now }
 {
-    let mut free = None;
+    let mut free = book.len();
     for (i, r) in book.iter().enumerate() {
         if !is_live(r) {
-            free = free.or(Some(i));
+            free = free.min(i);
         } else if sought.flight == r.flight {
             return Err(Reason::AlreadyLive.refuse());
         } else if sought.conflicts(*r) {
@@ -155,7 +156,11 @@ fn place_for(sought: Reservation, book: &[Reservation]) -> Result<usize, Refusal
             };
         }
     }
-    free.ok_or(Reason::AllLive.refuse())
+    if free < book.len() {
+        Ok(free)
+    } else {
+        Err(Reason::AllLive.refuse())
+    }
 }
 
 // The record with its live mark off.

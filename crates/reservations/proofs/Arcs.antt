@@ -1,13 +1,13 @@
 -- Two arcs of longitudes have one in common exactly when the test says so.
 -- Assumes nothing.
-use mathlib.Core.Path.{◌≡◌, refl, sym}
-use mathlib.Core.Bool.{Bool, true, false, ◌&&◌, ◌||◌, or-true}
+use mathlib.Core.Path.{◌≡◌, refl, sym, ap}
+use mathlib.Core.Bool.{Bool, true, false, ◌&&◌, ◌||◌, or-true, and-true}
 use mathlib.Core.Logic.{◌⊎◌, inl, inr, ⊎_elim}
 use Prim.Native.Nat.{ℕ, ◌+◌, ◌-◌, ◌≤◌, ◌<◌}
 use native.Mathlib.Omega.{arith}
 use lib.Dec.{ltb, leb}
 use lib.IntN.{ℤ}
-use borrow.Author.Tests.{ltb-true, leb-true, leb-false, lt-ltb}
+use borrow.Author.Tests.{ltb-true, leb-true, leb-false, lt-ltb, le-ltb}
 use Rattle.grid.specs.Cells.{around}
 use Rattle.grid.proofs.Cut.{and_true}
 use Rattle.distances.specs.Distances.{between}
@@ -72,3 +72,21 @@ longitudes_shared v w n m t =
     (λ h. let k = and_true (ltb (between v w) n) (ltb 0 m) h in let l : 0 < m = ltb-true 0 m k.1 in (w, ltb-true _ n k.0, omega arith))
     (λ h. let k = and_true (ltb (between w v) m) (ltb 0 n) h in let l : 0 < n = ltb-true 0 n k.1 in (v, omega arith, ltb-true _ m k.0))
     (either (ltb (between v w) n && ltb 0 m) (ltb (between w v) m && ltb 0 n) t)
+
+-- ---- as it is computed
+
+-- the way back is the rest of the turn
+way_back : (v w : ℤ) → 0 < between v w → between w v ≡ 2654208000 - between v w
+unfolding between
+way_back v w h = omega (arith, around_below v, around_below w)
+
+module _ (v w : ℤ) (n m : ℕ) {east : ℕ} (e : east ≡ between v w) where
+  -- the second arc begins within the first
+  pub onward : {b : Bool} → b ≡ true → east < n → 0 < m → b ≡ arcs_meet v n w m
+  unfolding arcs_meet
+  onward t l p = rw (lt-ltb (between v w) n (omega arith), lt-ltb 0 m p) t
+
+  -- it doesn't, and the way back decides
+  pub not_onward : n ≤ east → 0 < n → ltb (2654208000 - east) m ≡ arcs_meet v n w m
+  unfolding arcs_meet
+  not_onward l p = rw (le-ltb (between v w) n (omega arith), lt-ltb 0 n p, way_back v w (omega arith), and-true (ltb (2654208000 - between v w) m)) (ap (λ (k : ℕ). ltb (2654208000 - k) m) e)

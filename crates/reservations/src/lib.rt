@@ -5,7 +5,7 @@ ghost use Rattle.std.specs.Prelude.{◌≡◌, pos, ◌+ℤ◌};
 ghost use Rattle.reservations.specs.Meeting.{arcs_meet, squares_meet, conflict_test};
 ghost use Rattle.reservations.specs.inner.Spans.{spans_meet};
 
-use grid::{Cell, SpaceCell};
+use grid::{Cell, SpaceCell, TURN};
 use std::ops::Range;
 
 // One reservation: a live mark (0 is not live, any other number is), the flight, the space cell, and the minutes from start to end, the end not included.
@@ -42,7 +42,9 @@ fn run(f: i32, n: u32) -> Range<i64>
 fn arcs_meet(v: i32, n: u32, w: i32, m: u32) -> bool
     ensures { result ≡ arcs_meet v n w m }
 {
-    distances::apart(v, w) < n && 0 < m || distances::apart(w, v) < m && 0 < n
+    // one distance: the way back is the rest of the turn
+    let east = distances::apart(v, w);
+    0 < m && (east < n || 0 < n && TURN - east < m)
 }
 
 // The two cells share a unit square.

@@ -1,15 +1,12 @@
 -- `book::place_for` meets its contract. Assumes nothing.
-use Rattle.std.proofs.Common.{◌≡◌, ℕ, ◌+◌, ◌-◌, ◌<◌, ◌≤◌, length, take, drop, sym, ◌∙◌, ap, arith, below_more, position, Option, get_or}
-use Rattle.grid.specs.Answers.{answer_of}
-use Rattle.std.specs.Prelude.{cond, Some, None}
-use Rattle.std.specs.Option.{option_or}
-use Rattle.std.proofs.lemmas.List.{get_or-drop, length-drop, take_all}
+use Rattle.std.proofs.Common.{◌≡◌, false, ℕ, ◌+◌, ◌-◌, ◌<◌, length, drop, sym, ◌∙◌, ap, arith, below_more, position, get_or}
+use Rattle.std.proofs.lemmas.List.{get_or-drop, length-drop}
 use Rattle.std.specs.Prelude.{not}
 use Rattle.grid.proofs.Cut.{and_make}
 use Rattle.book.specs.Asking.{blank}
-use Rattle.book.specs.Book.{free, flies, record_at}
-use Rattle.book.proofs.Places.{none_passes, first_more, some_passes, or_none, rest_is}
-use Rattle.book.proofs.Looking.{dead_passed, live_passed, flown, says_15, says_16, says_rest}
+use Rattle.book.specs.Book.{live, flies, record_at}
+use Rattle.book.proofs.Places.{none_passes, some_passes, rest_is, one_passes, one_fails}
+use Rattle.book.proofs.Looking.{dead_passed, live_passed, flown, says_15, says_16, says_used, says_17}
 use Rattle.book.proofs.place_for.Goals as goal
 use Rattle.book.proofs.place_for.Goals.{then-not-is_live, else-not-is_live+else-sought-r+else-conflicts}
 
@@ -45,22 +42,18 @@ returns-in-None c =
 
 pub loop-i-preserved : goal.loop-i-preserved
 loop-i-preserved c =
-    let book = c.args.book.now in
     let i = c.loop-i.i in
     let v = c.loop-i.invariant in
     let a = c.args.sought in
-    let r = record_at book i in
-    let more : position free (take (i + 1) book) ≡ option_or c.loop-i.free (cond (free r) (Some i) None) =
-    first_more free book i c.loop-i-test.true ∙ ap (λ (o : Option ℕ). option_or o (cond (free r) (Some i) None)) (sym v.first_free) in
+    let r = record_at c.args.book.now i in
     elim c.if-not-is_live.branch [
-      | then-not-is_live w ↦ record { passed = below_more _ _ v.passed (dead_passed a r (sym c.is_live.ensures ∙ w.if-not-is_live.true)); first_free = w.free-is ∙ w.or-free.ensures ∙ (λ j. option_or c.loop-i.free (cond (not (sym (sym c.is_live.ensures ∙ w.if-not-is_live.true) j)) (Some i) None)) ∙ sym more }
-      | else-not-is_live+else-sought-r+else-conflicts w ↦ record { passed = below_more _ _ v.passed (live_passed a r w.if-sought-r.false (sym w.conflicts.ensures ∙ w.if-conflicts.false)); first_free = w.free-is ∙ or_none c.loop-i.free ∙ (λ j. option_or c.loop-i.free (cond (not (sym (sym c.is_live.ensures ∙ w.if-not-is_live.false) j)) (Some i) None)) ∙ sym more }
+      | then-not-is_live w ↦ let d : live r ≡ false = sym c.is_live.ensures ∙ w.if-not-is_live.true in record { passed = below_more _ _ v.passed (dead_passed a r d); first_free = one_passes v.first_free c.loop-i-test.true (ap not d) (omega arith) }
+      | else-not-is_live+else-sought-r+else-conflicts w ↦ record { passed = below_more _ _ v.passed (live_passed a r w.if-sought-r.false (sym w.conflicts.ensures ∙ w.if-conflicts.false)); first_free = one_fails v.first_free (ap not (sym c.is_live.ensures ∙ w.if-not-is_live.false)) w.free-is }
     ]
 
-pub returns : goal.returns
-returns c =
-    let book = c.args.book.now in
-    let l : length book ≤ c.loop-i.i = omega arith in
-    let e : take c.loop-i.i book ≡ book = take_all c.loop-i.i book l in
-    ap answer_of c.ok_or.ensures.value
-    ∙ says_rest c.args.sought book c.loop-i.i c.loop-i.invariant.passed l c.loop-i.free (c.loop-i.invariant.first_free ∙ ap (position free) e) c.refuse-2.ensures
+pub returns-then-free-book : goal.returns-then-free-book
+returns-then-free-book c = says_used c.args.sought c.args.book.now c.loop-i.i c.loop-i.invariant.passed (omega arith) c.loop-i.free c.loop-i.invariant.first_free c.if-free-book.true
+
+pub returns-else-free-book : goal.returns-else-free-book
+returns-else-free-book c =
+    says_17 c.args.sought c.args.book.now c.loop-i.i c.loop-i.invariant.passed (omega arith) c.loop-i.free c.loop-i.invariant.first_free (omega arith) c.refuse-else-free-book.ensures
