@@ -18,7 +18,7 @@ use Rattle.std.specs.Simd.{first_chunks}
 use Rattle.grid.proofs.Cut.{and_true}
 use Rattle.places.specs.Book.{Entry, first_body, order, below, unhyphened}
 use Rattle.places.specs.Reading.{word_at, entry_at, next_body, fair, fair_at, entry_then, entries_from}
-use Rattle.places.specs.inner.Walk.{Contents, Fits, opened, closed, note, noted, looked_in}
+use Rattle.places.specs.inner.Walk.{Contents, opened, closed, note, noted, looked_in}
 use Rattle.places.specs.declared.Seen.{Seen}
 use Rattle.places.specs.declared.NotFound.{NotFound}
 use Rattle.places.specs.declared.NotFound.TheVariants.{BadlyFormed}
@@ -168,14 +168,6 @@ module _ {asked s : List ℕ} {whole : Result Seen NotFound} {left i here : ℕ}
         short = g.short;
         rest = rw is-next (sym (walk_fair asked s left i here last seen h t is-n is_m (ap (λ x. take x (drop here s)) u)) ∙ g.rest);
       }
-
-  pub fits_here : {n m : ℕ} → true ≡ fair_at s i here last → n ≡ get_or s (i + 2) 0 → m ≡ get_or s (i + 3) 0
-      → Fits seen (length (take (here + n - here) (drop here s))) m
-  fits_here {n} {m} e is-n is_m =
-      let k = fair_known s i here last (sym e) in
-      let u : here + n - here ≡ n = omega arith in
-      let l : length (take (here + n - here) (drop here s)) ≡ n = ap (λ x. length (take x (drop here s))) u ∙ part_length s here n (omega (arith, k.inside)) in
-      record { few = omega (arith, g.few); near = omega (arith, k.inside, g.behind, g.short) }
 
   pub ends : left ≤ 0 → here ≡ length s → Ok seen ≡ whole
   ends h e = sym (walk_ended asked s left i here last seen h e) ∙ g.rest
